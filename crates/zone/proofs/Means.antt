@@ -1,0 +1,31 @@
+-- What the operations mean for members, in the form of the functions' contracts.
+use mathlib.Core.Path.{_≡_, sym, subst}
+use mathlib.Core.Bool.{Bool}
+use Rattle.zone.specs.Limit.{_≤ᴸ_, nought}
+use Rattle.zone.specs.Zone.{Zone, MaybeZone, TightMaybe, tighten, meet, compose, contains, Tightens, Meets, Composes, Contains}
+use Rattle.zone.proofs.Closed.{ClosedMaybe}
+use Rattle.zone.proofs.Tighten.{tighten-is, tighten-tight, meet-is, meet-tight}
+use Rattle.zone.proofs.Compose.{compose-is}
+use Rattle.zone.proofs.Join.{compose-tight}
+use Rattle.zone.proofs.Tight.{tight-is, tight-maybe, inclusion-is, contains-⊑}
+
+pub tighten-means : (z : Zone) {r : MaybeZone} → r ≡ tighten z → Tightens z r
+tighten-means z e = subst (Tightens z) (sym e) (record { members = λ x y. tighten-is x y z; tight = λ h k. tight-maybe (tighten z) (tighten-tight z h k) })
+
+pub meet-means : (z w : Zone) {r : MaybeZone} → r ≡ meet z w → Meets z w r
+meet-means z w e = subst (Meets z w) (sym e) (record { members = λ x y. meet-is x y z w; tight = λ h. tight-maybe (meet z w) (meet-tight w (tight-is .0 h)) })
+
+pub compose-means : (z w : Zone) {r : MaybeZone} → r ≡ compose z w → Composes z w r
+compose-means z w e =
+    subst (Composes z w) (sym e)
+    (record { members = λ h k. compose-is (tight-is .0 h) (tight-is .0 k); tight = λ h k. tight-maybe (compose z w) (compose-tight (tight-is .0 h) (tight-is .0 k)) })
+
+pub contains-means : (z w : Zone) {r : Bool} → r ≡ contains z w → Contains z w r
+contains-means z w e =
+    subst (Contains z w) (sym e)
+    (record {
+      members = λ h. (
+        λ t. inclusion-is z (tight-is .0 h) .1 (contains-⊑ z w .0 t),
+        λ f. contains-⊑ z w .1 (inclusion-is z (tight-is .0 h) .0 f),
+      );
+    })

@@ -1,0 +1,42 @@
+-- The steps of the functions' code: what a test that was passed or failed says of the definition.
+use mathlib.Core.Path.{_≡_, refl, sym, ap, _∙_}
+use mathlib.Core.Bool.{Bool, true, false, not, cond, _&&_}
+use Rattle.zone.specs.Limit.{Limit, at-most, _⊕_, nought}
+use Rattle.zone.specs.Zone.{Zone, MaybeZone, zone, empty, where-room, tighter, tighten}
+
+pub is-false : {b : Bool} → not b ≡ true → b ≡ false
+is-false {b = true} e = sym e
+is-false {b = false} e = refl
+
+pub is-true : {b : Bool} → not b ≡ false → b ≡ true
+is-true {b = true} e = refl
+is-true {b = false} e = sym e
+
+module _ (l m : Limit) (a : MaybeZone) {b : Bool} (e : b ≡ at-most nought (l ⊕ m)) where
+  pub no-room : not b ≡ true → empty ≡ where-room l m a
+  unfolding where-room
+  no-room t = ap (λ (c : Bool). cond c a empty) (sym (is-false t) ∙ e)
+
+  pub has-room : not b ≡ false → a ≡ where-room l m a
+  unfolding where-room
+  has-room t = ap (λ (c : Bool). cond c a empty) (sym (is-true t) ∙ e)
+
+-- the last step of tightening, from the tighter zone
+unfoldable pub checked : Zone → MaybeZone
+checked t = where-room (t .start) (t .nstart) (where-room (t .end) (t .nend) (where-room (t .length) (t .nlength) (zone t)))
+
+pub tighten-checked : (z : Zone) {t : Zone} {r : MaybeZone} → t ≡ tighter z → r ≡ checked t → r ≡ tighten z
+unfolding checked tighten
+tighten-checked z e f = f ∙ ap checked e
+
+-- ---- tests one after the other: one that fails fails them all, and after five that pass the sixth decides
+
+pub fails-here : (a : Bool) {b : Bool} → b ≡ false → false ≡ a && b
+fails-here true e = sym e
+fails-here false e = refl
+
+pub fails-before : {a : Bool} (b : Bool) → false ≡ a → false ≡ a && b
+fails-before b e = ap (λ (a : Bool). a && b) e
+
+pub sixth-decides : {a b c d e : Bool} (f : Bool) → a ≡ true → b ≡ true → c ≡ true → d ≡ true → e ≡ true → f ≡ a && b && c && d && e && f
+sixth-decides f p q r s t = rw (p, q, r, s, t)

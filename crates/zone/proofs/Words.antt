@@ -1,0 +1,126 @@
+-- Words: coding and its order, and what a buffer holds after it was written to.
+use mathlib.Core.Path.{_≡_, refl, sym, ap, _∙_}
+use mathlib.Core.Bool.{Bool, true, false, cond, _&&_}
+use mathlib.Core.List.{List, [], _∷_, _++_, append-assoc}
+use Prim.Native.Nat.{ℕ, suc, _+_, _-_, _≤_, _<_}
+use native.Mathlib.Omega.{arith}
+use native.Mathlib.Nat.{add-zero}
+use lib.Dec.{T}
+use lib.IntN.{ℤ, pos, _+ℤ_, _*ℤ_}
+use lib.Signed.{leZ, ltZ, shrZ}
+use lib.ListN.{length, getD, set, take, drop, length-append, length-take, length-drop, List·getD-append}
+use lib.Seq.{sets-eq, length-take-le, getD-append-add, getD-take, getD-drop}
+use Rattle.signed.proofs.Integers.{arithZ, sum, half, times}
+use Rattle.zone.specs.Limit.{Limit, AtMost, Below, at-most, code, decode}
+use Rattle.zone.specs.Zone.{Zone, contains}
+use Rattle.zone.specs.Words.{word, codes, zoneAt, overwrite}
+
+-- ---- the coding
+
+decode-by : (w : ℤ) (b : Bool) → ltZ (shrZ w 2 *ℤ pos 2) w ≡ b → code (cond b (AtMost (shrZ w 2)) (Below (shrZ w 2))) ≡ w
+decode-by w true e = omega (arithZ, half w, times (shrZ w 2) 2, sum (shrZ w 2 *ℤ pos 2) (pos 1))
+decode-by w false e = omega (arithZ, half w, times (shrZ w 2) 2)
+
+pub code-decode : (w : ℤ) → code (decode w) ≡ w
+code-decode w = decode-by w (ltZ (shrZ w 2 *ℤ pos 2) w) refl
+
+half-odd : (v : ℤ) → shrZ (v *ℤ pos 2 +ℤ pos 1) 2 ≡ v
+half-odd v = omega (arithZ, half (v *ℤ pos 2 +ℤ pos 1), sum (v *ℤ pos 2) (pos 1), times v 2)
+
+half-even : (v : ℤ) → shrZ (v *ℤ pos 2) 2 ≡ v
+half-even v = omega (arithZ, half (v *ℤ pos 2), times v 2)
+
+pub decode-code : (l : Limit) → decode (code l) ≡ l
+decode-code (AtMost v) =
+    let t : ltZ (v *ℤ pos 2) (v *ℤ pos 2 +ℤ pos 1) ≡ true = omega (arithZ, sum (v *ℤ pos 2) (pos 1)) in
+    rw (half-odd v, t)
+decode-code (Below v) =
+    let t : ltZ (v *ℤ pos 2) (v *ℤ pos 2) ≡ false = omega arithZ in
+    rw (half-even v, t)
+
+-- ---- the order of words is the order of limits
+
+same-test : (a b : Bool) → (T a → T b) → (T b → T a) → a ≡ b
+same-test true true f g = refl
+same-test true false f g = absurd (f tt)
+same-test false true f g = absurd (g tt)
+same-test false false f g = refl
+
+pub code-order : (l m : Limit) → at-most l m ≡ leZ (code l) (code m)
+code-order (AtMost a) (AtMost b) = same-test _ _ (λ t. omega (arithZ, t, times a 2, times b 2, sum (a *ℤ pos 2) (pos 1), sum (b *ℤ pos 2) (pos 1))) (λ t. omega (arithZ, t, times a 2, times b 2, sum (a *ℤ pos 2) (pos 1), sum (b *ℤ pos 2) (pos 1)))
+code-order (AtMost a) (Below b) = same-test _ _ (λ t. omega (arithZ, t, times a 2, times b 2, sum (a *ℤ pos 2) (pos 1))) (λ t. omega (arithZ, t, times a 2, times b 2, sum (a *ℤ pos 2) (pos 1)))
+code-order (Below a) (AtMost b) = same-test _ _ (λ t. omega (arithZ, t, times a 2, times b 2, sum (b *ℤ pos 2) (pos 1))) (λ t. omega (arithZ, t, times a 2, times b 2, sum (b *ℤ pos 2) (pos 1)))
+code-order (Below a) (Below b) = same-test _ _ (λ t. omega (arithZ, t, times a 2, times b 2)) (λ t. omega (arithZ, t, times a 2, times b 2))
+
+pub decode-order : (a b : ℤ) → at-most (decode a) (decode b) ≡ leZ a b
+decode-order a b = code-order (decode a) (decode b) ∙ rw (code-decode a, code-decode b)
+
+-- ---- a buffer that was written to
+
+module _ (ws : List ℤ) (at : ℕ) (vs : List ℤ) (fits : at + length vs ≤ length ws) where
+  front : length (take at ws) ≡ at
+  front = length-take-le at ws (omega arith)
+
+  pub overwrite-length : length (overwrite ws at vs) ≡ length ws
+  unfolding overwrite
+  overwrite-length = simp (length-append, length-drop, length-take) (omega arith)
+
+  pub overwrite-below : (k : ℕ) → k < at → word (overwrite ws at vs) k ≡ word ws k
+  unfolding overwrite
+  overwrite-below k h = List·getD-append (take at ws) (vs ++ drop (at + length vs) ws) (pos 0) k (omega (arith, front)) ∙ getD-take at ws k (pos 0) h
+
+  pub overwrite-in : (k : ℕ) → k < length vs → word (overwrite ws at vs) (at + k) ≡ word vs k
+  unfolding overwrite
+  overwrite-in k h =
+      ap (λ (n : ℕ). word (take at ws ++ (vs ++ drop (at + length vs) ws)) (n + k)) (sym front)
+      ∙ getD-append-add (take at ws) (vs ++ drop (at + length vs) ws) k (pos 0)
+      ∙ List·getD-append vs (drop (at + length vs) ws) (pos 0) k h
+
+  pub overwrite-above : (k : ℕ) → at + length vs ≤ k → word (overwrite ws at vs) k ≡ word ws k
+  unfolding overwrite
+  overwrite-above k h =
+      let n = k - (at + length vs) in
+      let e : k ≡ length (take at ws) + (length vs + n) = omega (arith, front) in
+      ap (word (take at ws ++ (vs ++ drop (at + length vs) ws))) e
+      ∙ getD-append-add (take at ws) (vs ++ drop (at + length vs) ws) (length vs + n) (pos 0)
+      ∙ getD-append-add vs (drop (at + length vs) ws) n (pos 0)
+      ∙ getD-drop (at + length vs) ws n (pos 0)
+      ∙ ap (word ws) (omega arith)
+
+-- the zone of six codes
+pub zone-of-codes : (ws : List ℤ) (at : ℕ) (z : Zone) → ((k : ℕ) → k < 6 → word ws (at + k) ≡ word (codes z) k) → zoneAt ws at ≡ z
+unfolding zoneAt
+zone-of-codes ws at z f =
+    let f0 = rw add-zero at (f 0 (omega arith)) in
+    λ i. record {
+      start = (ap decode f0 ∙ decode-code (z .start)) i;
+      nstart = (ap decode (f 1 (omega arith)) ∙ decode-code (z .nstart)) i;
+      end = (ap decode (f 2 (omega arith)) ∙ decode-code (z .end)) i;
+      nend = (ap decode (f 3 (omega arith)) ∙ decode-code (z .nend)) i;
+      length = (ap decode (f 4 (omega arith)) ∙ decode-code (z .length)) i;
+      nlength = (ap decode (f 5 (omega arith)) ∙ decode-code (z .nlength)) i;
+    }
+
+-- two buffers with the same six words have the same zone there
+pub same-zone : (ws vs : List ℤ) (i j : ℕ) → ((k : ℕ) → k < 6 → word ws (i + k) ≡ word vs (j + k)) → zoneAt ws i ≡ zoneAt vs j
+unfolding zoneAt
+same-zone ws vs i j f =
+    let f0 = rw (add-zero, add-zero) at (f 0 (omega arith)) in
+    λ m. record { start = decode (f0 m); nstart = decode (f 1 (omega arith) m); end = decode (f 2 (omega arith) m); nend = decode (f 3 (omega arith) m); length = decode (f 4 (omega arith) m); nlength = decode (f 5 (omega arith) m) }
+
+-- a zone that was written is read there
+pub written-zone : (ws : List ℤ) (at : ℕ) (z : Zone) → at + 6 ≤ length ws → zoneAt (overwrite ws at (codes z)) at ≡ z
+written-zone ws at z h = zone-of-codes (overwrite ws at (codes z)) at z (λ k p. overwrite-in ws at (codes z) h k p)
+
+-- six words stored one after the other
+pub six-stores : (ws : List ℤ) (at : ℕ) (v0 v1 v2 v3 v4 v5 : ℤ) → at + 6 ≤ length ws →
+    set (set (set (set (set (set ws at v0) (at + 1) v1) (at + 2) v2) (at + 3) v3) (at + 4) v4) (at + 5) v5 ≡ overwrite ws at (v0 ∷ v1 ∷ v2 ∷ v3 ∷ v4 ∷ v5 ∷ [])
+unfolding overwrite
+six-stores ws at v0 v1 v2 v3 v4 v5 h =
+    let vs = v0 ∷ v1 ∷ v2 ∷ v3 ∷ v4 ∷ v5 ∷ [] in
+    let e1 : at + 1 ≡ suc at = omega arith in
+    let e2 : at + 2 ≡ suc (suc at) = omega arith in
+    let e3 : at + 3 ≡ suc (suc (suc at)) = omega arith in
+    let e4 : at + 4 ≡ suc (suc (suc (suc at))) = omega arith in
+    let e5 : at + 5 ≡ suc (suc (suc (suc (suc at)))) = omega arith in
+    rw (e1, e2, e3, e4, e5) (sets-eq vs ws at h ∙ append-assoc (take at ws) vs (drop (at + 6) ws))

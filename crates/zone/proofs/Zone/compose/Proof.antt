@@ -1,0 +1,55 @@
+use Rattle.zone.proofs.Steps.{no-room, has-room}
+use Rattle.zone.specs.Zone.{zone, empty, compose, joined, where-room}
+use mathlib.Core.Path.{_≡_, ap, _∙_}
+use Rattle.zone.proofs.Means.{compose-means}
+use borrow.Author.Needs.{needs}
+use Rattle.zone.proofs.Zone.compose.Statement.{statement}
+use Rattle.zone.proofs.Zone.compose.Tie as tie
+use Rattle.zone.proofs.Zone.compose.Reads as reads
+use Rattle.zone.proofs.Zone.compose.Lts as lts
+use Rattle.zone.proofs.Limit.leaves_room.Reads as leaves-room-reads
+use Rattle.zone.proofs.Zone.joined.Reads as joined-reads
+
+leaves-room-requires : tie.Need-leaves-room-requires
+leaves-room-requires c κs = search needs
+
+returns : tie.Need-returns
+unfolding compose
+returns c =
+    let z = c .before .before .args .self in
+    let w = c .before .before .args .other in
+    let v : empty ≡ compose z w = no-room _ _ (where-room (z .nend) (w .start) (zone (joined z w))) (c .before .leaves-room .ensures) (c .if1 .taken) in
+    (v, compose-means z w v)
+
+leaves-room-requires-2 : tie.Need-leaves-room-requires-2
+leaves-room-requires-2 c κs = search needs
+
+returns-2 : tie.Need-returns-2
+unfolding compose
+returns-2 c =
+    let z = c .before .before .before .before .args .self in
+    let w = c .before .before .before .before .args .other in
+    let v : empty ≡ compose z w = no-room _ _ (zone (joined z w)) (c .before .leaves-room2 .ensures) (c .if2 .taken) ∙ has-room _ _ (where-room (z .nend) (w .start) (zone (joined z w))) (c .before .before .before .leaves-room .ensures) (c .before .before .if1 .left) in
+    (v, compose-means z w v)
+
+joined-requires : tie.Need-joined-requires
+joined-requires c κs = search needs
+
+returns-3 : tie.Need-returns-3
+unfolding compose
+returns-3 c =
+    let z = c .before .before .before .before .before .args .self in
+    let w = c .before .before .before .before .before .args .other in
+    let v : zone (c .joined .result) ≡ compose z w = ap zone (c .joined .ensures) ∙ has-room _ _ (zone (joined z w)) (c .before .before .leaves-room2 .ensures) (c .before .if2 .left) ∙ has-room _ _ (where-room (z .nend) (w .start) (zone (joined z w))) (c .before .before .before .before .leaves-room .ensures) (c .before .before .before .if1 .left) in
+    (v, compose-means z w v)
+
+pub compose-spec : {M : Type 1} → statement M
+compose-spec =
+    tie.close
+    (tie.spec
+    leaves-room-requires
+    returns
+    leaves-room-requires-2
+    returns-2
+    joined-requires
+    returns-3)

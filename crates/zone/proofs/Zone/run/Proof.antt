@@ -1,0 +1,34 @@
+use Rattle.zone.proofs.Signed.{read-back, small-back, small-negated, whole-back}
+use Rattle.zone.specs.Zone.{run}
+use Rattle.zone.specs.Limit.{AtMost, Below}
+use native.Mathlib.Omega.{arith}
+use mathlib.Core.Path.{ap}
+use lib.IntN.{pos}
+use borrow.Author.Needs.{needs}
+use Rattle.zone.proofs.Zone.run.Statement.{statement}
+use Rattle.zone.proofs.Zone.run.Tie as tie
+use Rattle.zone.proofs.Zone.run.Reads as reads
+use Rattle.zone.proofs.Zone.run.Lts as lts
+use Rattle.zone.proofs.add.Reads as add-reads
+use Rattle.zone.proofs.negative.Reads as negative-reads
+use Rattle.zone.proofs.positive.Reads as positive-reads
+
+positive-requires : tie.Need-positive-requires
+positive-requires c κs = search needs
+
+negative-requires : tie.Need-negative-requires
+negative-requires c κs = search needs
+
+add-requires : tie.Need-add-requires
+add-requires c κs = (small-back (search needs) (c .before .positive .ensures) (omega (arith, c .before .before .pre .1)), small-back (search needs) (c .negative .ensures) (small-negated _ (c .before .before .pre .0)))
+
+returns : tie.Need-returns
+unfolding run
+returns c =
+    let last = read-back (search needs) (c .before .before .positive .ensures) in
+    let first = read-back (search needs) (c .before .negative .ensures) in
+    let whole = whole-back (c .before .before .before .args .from) (search needs) (search needs) (search needs) (c .before .before .positive .ensures) (c .before .negative .ensures) (c .add .ensures) in
+    λ i. record { start = Below (last i); nstart = AtMost (first i); end = AtMost (last i); nend = Below (first i); length = AtMost (whole i); nlength = Below (pos 0) }
+
+pub run-spec : {M : Type 1} → statement M
+run-spec = tie.close (tie.spec positive-requires negative-requires add-requires returns)

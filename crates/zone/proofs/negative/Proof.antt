@@ -1,0 +1,16 @@
+use borrow.Author.Needs.{needs}
+use Rattle.zone.proofs.Signed.{negated-fits, negated-is}
+use Rattle.zone.proofs.negative.Statement.{statement}
+use Rattle.zone.proofs.negative.Tie as tie
+
+positive-requires : tie.Need-positive-requires
+positive-requires c κs = search needs
+
+sub-result : tie.Need-sub-result
+sub-result c = negated-fits (c .before .pre) (search needs) (c .positive .ensures)
+
+returns : tie.Need-returns
+returns c = negated-is (c .before .pre) (search needs) (c .positive .ensures)
+
+pub negative-spec : {M : Type 1} → statement M
+negative-spec = tie.close (tie.spec positive-requires sub-result returns)

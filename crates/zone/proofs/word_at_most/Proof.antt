@@ -1,0 +1,37 @@
+use Rattle.zone.proofs.Words.{decode-order}
+use Rattle.zone.specs.Words.{word}
+use Rattle.signed.proofs.Machine.{back}
+use mathlib.Core.Path.{sym}
+use borrow.Author.Needs.{needs}
+use Rattle.zone.proofs.word_at_most.Statement.{statement}
+use Rattle.zone.proofs.word_at_most.Tie as tie
+use Rattle.zone.proofs.word_at_most.Reads as reads
+use Rattle.zone.proofs.word_at_most.Lts as lts
+
+mul-result : tie.Need-mul-result
+mul-result c = search needs
+
+shared-slice-copy-out-result : tie.Need-shared-slice-copy-out-result
+shared-slice-copy-out-result c = search needs
+
+mul-result-2 : tie.Need-mul-result-2
+mul-result-2 c = search needs
+
+shared-slice-copy-out-result-2 : tie.Need-shared-slice-copy-out-result-2
+shared-slice-copy-out-result-2 c = search needs
+
+returns : tie.Need-returns
+returns c =
+    let a = word (c .before .before .args .inner .now) (c .before .before .args .i) in
+    let b = word (c .before .before .args .outer .now) (c .before .before .args .j) in
+    rw (back {z = a} (record { sfits = c .before .result .given }), back {z = b} (record { sfits = c .result2 .given })) (sym (decode-order a b))
+
+pub word-at-most-spec : {M : Type 1} → statement M
+word-at-most-spec =
+    tie.close
+    (tie.spec
+    mul-result
+    shared-slice-copy-out-result
+    mul-result-2
+    shared-slice-copy-out-result-2
+    returns)

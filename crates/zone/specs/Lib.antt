@@ -1,0 +1,4 @@
+pub mod Time
+pub mod Limit
+pub mod Zone
+pub mod Words

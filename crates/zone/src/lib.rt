@@ -1,0 +1,457 @@
+// Zones: sets of stretches of time, each given by six upper limits on start, −start, end, −end, end − start and
+// start − end (a difference-bound matrix of three points). The layer knows nothing of recordings or drills.
+//
+// specs/ says what a time, a limit and a zone mean; proofs/Laws.antt is the page that crates above cite. A `requires`
+// is only of ranges, and every tight zone inside 0..1,000,000 meets it (`ranged` in proofs/Laws.antt).
+ghost use mathlib.Core.Path.{_≡_};
+ghost use Prim.Native.Nat.{_+_, _≤_, _<_};
+ghost use lib.ListN.{length};
+ghost use lib.IntN.{pos, negℤ, _+ℤ_};
+ghost use lib.Signed.{mag};
+ghost use Rattle.zone.specs.Limit.{at-most, lesser, _⊕_, nought, code, decode, Small};
+ghost use Rattle.zone.specs.Zone.{tighter, tighten, both, meet, joined, compose, contains, run, diagonal, everything, limited, band, Ranged, Tightens, Meets, Composes, Contains};
+ghost use Rattle.zone.specs.Words.{word, codes, zoneAt, overwrite};
+
+// An upper limit: reached (non-strict) or not reached (strict), with its whole number.
+pub enum Limit {
+    AtMost(i32),
+    Below(i32),
+}
+
+// The six limits of a zone; the n stands for "negated": a lower limit is an upper one on the negated quantity.
+pub struct Zone {
+    pub start: Limit,
+    pub nstart: Limit,
+    pub end: Limit,
+    pub nend: Limit,
+    pub length: Limit,
+    pub nlength: Limit,
+}
+
+// What an operation answers: a tight zone, or that nothing is left.
+pub enum MaybeZone {
+    Zone(Zone),
+    Empty,
+}
+
+// The only sum of machine numbers.
+fn add(a: i32, b: i32) -> i32
+    requires { ⌜ (mag a ≤ 4_000_000) × (mag b ≤ 4_000_000) ⌝ }
+    ensures { λ r. ⌜ r ≡ a +ℤ b ⌝ }
+{
+    a + b
+}
+
+// A tick as a limit's number, and negated.
+fn positive(n: u32) -> i32
+    requires { ⌜ n ≤ 1_000_000 ⌝ }
+    ensures { λ r. ⌜ r ≡ pos n ⌝ }
+{
+    n as i32
+}
+
+fn negative(n: u32) -> i32
+    requires { ⌜ n ≤ 1_000_000 ⌝ }
+    ensures { λ r. ⌜ r ≡ negℤ (pos n) ⌝ }
+{
+    -positive(n)
+}
+
+impl Limit {
+    fn plus(self, other: Limit) -> Limit
+        requires { ⌜ (Small 4_000_000 self) × (Small 4_000_000 other) ⌝ }
+        ensures { λ r. ⌜ r ≡ self ⊕ other ⌝ }
+    {
+        match self {
+            Limit::AtMost(a) => match other {
+                Limit::AtMost(b) => Limit::AtMost(add(a, b)),
+                Limit::Below(b) => Limit::Below(add(a, b)),
+            },
+            Limit::Below(a) => match other {
+                Limit::AtMost(b) => Limit::Below(add(a, b)),
+                Limit::Below(b) => Limit::Below(add(a, b)),
+            },
+        }
+    }
+
+    fn at_most(self, other: Limit) -> bool
+        ensures { λ r. ⌜ r ≡ at-most self other ⌝ }
+    {
+        match self {
+            Limit::AtMost(a) => match other {
+                Limit::AtMost(b) => a <= b,
+                Limit::Below(b) => a < b,
+            },
+            Limit::Below(a) => match other {
+                Limit::AtMost(b) => a <= b,
+                Limit::Below(b) => a <= b,
+            },
+        }
+    }
+
+    fn lesser(self, other: Limit) -> Limit
+        ensures { λ r. ⌜ r ≡ lesser self other ⌝ }
+    {
+        if self.at_most(other) { self } else { other }
+    }
+
+    // The lesser of this limit and the sum of two others.
+    fn or_sum(self, a: Limit, b: Limit) -> Limit
+        requires { ⌜ (Small 4_000_000 a) × (Small 4_000_000 b) ⌝ }
+        ensures { λ r. ⌜ r ≡ lesser self (a ⊕ b) ⌝ }
+    {
+        self.lesser(a.plus(b))
+    }
+
+    // Whether this limit and the one on the negated quantity leave room between them.
+    fn leaves_room(self, negated: Limit) -> bool
+        requires { ⌜ (Small 4_000_000 self) × (Small 4_000_000 negated) ⌝ }
+        ensures { λ r. ⌜ r ≡ at-most nought (self ⊕ negated) ⌝ }
+    {
+        Limit::AtMost(0).at_most(self.plus(negated))
+    }
+
+    // The word of a limit: twice its number, and one more where it is reached.
+    pub fn word(self) -> i32
+        requires { ⌜ Small 1_000_000 self ⌝ }
+        ensures { λ r. ⌜ r ≡ code self ⌝ }
+    {
+        match self {
+            Limit::AtMost(v) => v * 2 + 1,
+            Limit::Below(v) => v * 2,
+        }
+    }
+
+    // The limit of a word.
+    pub fn of_word(w: i32) -> Limit
+        ensures { λ r. ⌜ r ≡ decode w ⌝ }
+    {
+        let h = w >> 1;
+        if h * 2 < w {
+            Limit::AtMost(h)
+        } else {
+            Limit::Below(h)
+        }
+    }
+}
+
+impl Zone {
+    fn tighter(self) -> Zone
+        requires { ⌜ Ranged 1_000_000 self ⌝ }
+        ensures { λ r. ⌜ r ≡ tighter self ⌝ }
+    {
+        let s = self.start;
+        let ns = self.nstart;
+        let e = self.end;
+        let ne = self.nend;
+        let l = self.length;
+        let nl = self.nlength;
+        Zone {
+            start: s.or_sum(nl, e),
+            nstart: ns.or_sum(ne, l),
+            end: e.or_sum(l, s),
+            nend: ne.or_sum(ns, nl),
+            length: l.or_sum(e, ns),
+            nlength: nl.or_sum(s, ne),
+        }
+    }
+
+    // The same members with limits that cannot be lowered; Empty where there is no member.
+    pub fn tighten(self) -> MaybeZone
+        requires { ⌜ Ranged 1_000_000 self ⌝ }
+        ensures value { λ r. ⌜ r ≡ tighten self ⌝ }
+        ensures meaning { λ r. ⌜ Tightens self r ⌝ }
+    {
+        let t = self.tighter();
+        let s = t.start;
+        let ns = t.nstart;
+        if !s.leaves_room(ns) {
+            return MaybeZone::Empty;
+        }
+        let e = t.end;
+        let ne = t.nend;
+        if !e.leaves_room(ne) {
+            return MaybeZone::Empty;
+        }
+        let l = t.length;
+        let nl = t.nlength;
+        if !l.leaves_room(nl) {
+            return MaybeZone::Empty;
+        }
+        MaybeZone::Zone(t)
+    }
+
+    // The lesser limit on each side.
+    fn both(self, other: Zone) -> Zone
+        ensures { λ r. ⌜ r ≡ both self other ⌝ }
+    {
+        let s = self.start;
+        let ns = self.nstart;
+        let e = self.end;
+        let ne = self.nend;
+        let l = self.length;
+        let nl = self.nlength;
+        let os = other.start;
+        let ons = other.nstart;
+        let oe = other.end;
+        let one = other.nend;
+        let ol = other.length;
+        let onl = other.nlength;
+        Zone {
+            start: s.lesser(os),
+            nstart: ns.lesser(ons),
+            end: e.lesser(oe),
+            nend: ne.lesser(one),
+            length: l.lesser(ol),
+            nlength: nl.lesser(onl),
+        }
+    }
+
+    // The stretches of both.
+    pub fn meet(self, other: Zone) -> MaybeZone
+        requires { ⌜ (Ranged 1_000_000 self) × (Ranged 1_000_000 other) ⌝ }
+        ensures value { λ r. ⌜ r ≡ meet self other ⌝ }
+        ensures meaning { λ r. ⌜ Meets self other r ⌝ }
+    {
+        self.both(other).tighten()
+    }
+
+    // The limits on start and end that a cut between the two zones leaves.
+    fn joined(self, other: Zone) -> Zone
+        requires { ⌜ (Ranged 1_000_000 self) × (Ranged 1_000_000 other) ⌝ }
+        ensures { λ r. ⌜ r ≡ joined self other ⌝ }
+    {
+        let s = self.start;
+        let ns = self.nstart;
+        let e = self.end;
+        let ne = self.nend;
+        let l = self.length;
+        let nl = self.nlength;
+        let os = other.start;
+        let ons = other.nstart;
+        let oe = other.end;
+        let one = other.nend;
+        let ol = other.length;
+        let onl = other.nlength;
+        Zone {
+            start: s.or_sum(nl, os),
+            nstart: ns.or_sum(ons, l),
+            end: oe.or_sum(ol, e),
+            nend: one.or_sum(ne, onl),
+            length: ol.plus(l).or_sum(oe, ns),
+            nlength: nl.plus(onl).or_sum(s, one),
+        }
+    }
+
+    // The stretches that a cut divides into one of this zone and one of the other. Nothing is left to tighten.
+    pub fn compose(self, other: Zone) -> MaybeZone
+        requires { ⌜ (Ranged 1_000_000 self) × (Ranged 1_000_000 other) ⌝ }
+        ensures value { λ r. ⌜ r ≡ compose self other ⌝ }
+        ensures meaning { λ r. ⌜ Composes self other r ⌝ }
+    {
+        let ends = self.end;
+        let nstarts = other.nstart;
+        if !nstarts.leaves_room(ends) {
+            return MaybeZone::Empty;
+        }
+        let nends = self.nend;
+        let starts = other.start;
+        if !nends.leaves_room(starts) {
+            return MaybeZone::Empty;
+        }
+        MaybeZone::Zone(self.joined(other))
+    }
+
+    // Whether every stretch of the other zone, which is tight, lies in this one.
+    pub fn contains(self, other: Zone) -> bool
+        ensures value { λ r. ⌜ r ≡ contains self other ⌝ }
+        ensures meaning { λ r. ⌜ Contains self other r ⌝ }
+    {
+        let s = self.start;
+        let ns = self.nstart;
+        let e = self.end;
+        let ne = self.nend;
+        let l = self.length;
+        let nl = self.nlength;
+        let os = other.start;
+        let ons = other.nstart;
+        let oe = other.end;
+        let one = other.nend;
+        let ol = other.length;
+        let onl = other.nlength;
+        if !os.at_most(s) {
+            return false;
+        }
+        if !ons.at_most(ns) {
+            return false;
+        }
+        if !oe.at_most(e) {
+            return false;
+        }
+        if !one.at_most(ne) {
+            return false;
+        }
+        if !ol.at_most(l) {
+            return false;
+        }
+        onl.at_most(nl)
+    }
+
+    // The stretches within ticks from..to that have a length.
+    pub fn run(from: u32, to: u32) -> Zone
+        requires { ⌜ (from ≤ 1_000_000) × (to ≤ 1_000_000) ⌝ }
+        ensures { λ r. ⌜ r ≡ run from to ⌝ }
+    {
+        let last = positive(to);
+        let first = negative(from);
+        let whole = add(last, first);
+        Zone {
+            start: Limit::Below(last),
+            nstart: Limit::AtMost(first),
+            end: Limit::AtMost(last),
+            nend: Limit::Below(first),
+            length: Limit::AtMost(whole),
+            nlength: Limit::Below(0),
+        }
+    }
+
+    // The stretches within ticks from..to that have none.
+    pub fn diagonal(from: u32, to: u32) -> Zone
+        requires { ⌜ (from ≤ 1_000_000) × (to ≤ 1_000_000) ⌝ }
+        ensures { λ r. ⌜ r ≡ diagonal from to ⌝ }
+    {
+        let last = positive(to);
+        let first = negative(from);
+        Zone {
+            start: Limit::AtMost(last),
+            nstart: Limit::AtMost(first),
+            end: Limit::AtMost(last),
+            nend: Limit::AtMost(first),
+            length: Limit::AtMost(0),
+            nlength: Limit::AtMost(0),
+        }
+    }
+
+    // All stretches within ticks from..to.
+    pub fn everything(from: u32, to: u32) -> Zone
+        requires { ⌜ (from ≤ 1_000_000) × (to ≤ 1_000_000) ⌝ }
+        ensures { λ r. ⌜ r ≡ everything from to ⌝ }
+    {
+        let last = positive(to);
+        let first = negative(from);
+        let whole = add(last, first);
+        Zone {
+            start: Limit::AtMost(last),
+            nstart: Limit::AtMost(first),
+            end: Limit::AtMost(last),
+            nend: Limit::AtMost(first),
+            length: Limit::AtMost(whole),
+            nlength: Limit::AtMost(0),
+        }
+    }
+
+    // This zone with two limits more, on end − start and on start − end.
+    fn limited(self, longest: Limit, shortest: Limit) -> Zone
+        ensures { λ r. ⌜ r ≡ limited self longest shortest ⌝ }
+    {
+        let s = self.start;
+        let ns = self.nstart;
+        let e = self.end;
+        let ne = self.nend;
+        let l = self.length;
+        let nl = self.nlength;
+        Zone {
+            start: s,
+            nstart: ns,
+            end: e,
+            nend: ne,
+            length: l.lesser(longest),
+            nlength: nl.lesser(shortest),
+        }
+    }
+
+    // The stretches within ticks from..to whose length keeps to a limit on end − start and one on start − end; Empty
+    // where there is none.
+    pub fn band(from: u32, to: u32, longest: Limit, shortest: Limit) -> MaybeZone
+        requires { ⌜ (from ≤ 1_000_000) × (to ≤ 1_000_000) × (Small 1_000_000 longest) × (Small 1_000_000 shortest) ⌝ }
+        ensures { λ r. ⌜ r ≡ band from to longest shortest ⌝ }
+    {
+        Zone::everything(from, to)
+            .limited(longest, shortest)
+            .tighten()
+    }
+}
+
+fn limit_at(words: &[i32], at: usize) -> Limit
+    requires { ⌜ at < length (now words) ⌝ }
+    ensures { λ r. ⌜ r ≡ decode (word (now (words .entry)) at) ⌝ }
+{
+    let w = words[at];
+    Limit::of_word(w)
+}
+
+// The zone whose six words stand from `at` on.
+pub fn read_zone(words: &[i32], at: usize) -> Zone
+    requires { ⌜ at + 6 ≤ length (now words) ⌝ }
+    ensures { λ r. ⌜ r ≡ zoneAt (now (words .entry)) at ⌝ }
+{
+    Zone {
+        start: limit_at(words, at),
+        nstart: limit_at(words, at + 1),
+        end: limit_at(words, at + 2),
+        nend: limit_at(words, at + 3),
+        length: limit_at(words, at + 4),
+        nlength: limit_at(words, at + 5),
+    }
+}
+
+// Writes the six words of a zone from `at` on; all other words stay as they were.
+pub fn write_zone(words: &mut [i32], at: usize, z: Zone)
+    requires { ⌜ (at + 6 ≤ length (now words)) × (Ranged 1_000_000 z) ⌝ }
+    ensures { λ _. ⌜ now (words .exit) ≡ overwrite (now (words .entry)) at (codes z) ⌝ }
+{
+    let s = z.start;
+    let ns = z.nstart;
+    let e = z.end;
+    let ne = z.nend;
+    let l = z.length;
+    let nl = z.nlength;
+    words[at] = s.word();
+    words[at + 1] = ns.word();
+    words[at + 2] = e.word();
+    words[at + 3] = ne.word();
+    words[at + 4] = l.word();
+    words[at + 5] = nl.word();
+}
+
+// Whether the limit of one word is at most that of another: the order of words is that of limits, so nothing is decoded.
+fn word_at_most(inner: &[i32], i: usize, outer: &[i32], j: usize) -> bool
+    requires { ⌜ (i < length (now inner)) × (j < length (now outer)) ⌝ }
+    ensures { λ r. ⌜ r ≡ at-most (decode (word (now (inner .entry)) i)) (decode (word (now (outer .entry)) j)) ⌝ }
+{
+    inner[i] <= outer[j]
+}
+
+// Whether the tight zone whose words stand from `i` on in `inner` lies inside the one from `j` on in `outer`.
+pub fn included(inner: &[i32], i: usize, outer: &[i32], j: usize) -> bool
+    requires { ⌜ (i + 6 ≤ length (now inner)) × (j + 6 ≤ length (now outer)) ⌝ }
+    ensures value { λ r. ⌜ r ≡ contains (zoneAt (now (outer .entry)) j) (zoneAt (now (inner .entry)) i) ⌝ }
+    ensures meaning { λ r. ⌜ Contains (zoneAt (now (outer .entry)) j) (zoneAt (now (inner .entry)) i) r ⌝ }
+{
+    if !word_at_most(inner, i, outer, j) {
+        return false;
+    }
+    if !word_at_most(inner, i + 1, outer, j + 1) {
+        return false;
+    }
+    if !word_at_most(inner, i + 2, outer, j + 2) {
+        return false;
+    }
+    if !word_at_most(inner, i + 3, outer, j + 3) {
+        return false;
+    }
+    if !word_at_most(inner, i + 4, outer, j + 4) {
+        return false;
+    }
+    word_at_most(inner, i + 5, outer, j + 5)
+}
