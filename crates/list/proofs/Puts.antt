@@ -1,0 +1,86 @@
+-- The three ways of a put.
+use mathlib.Core.Path.{_≡_, refl, sym, ap, subst, _∙_}
+use mathlib.Core.Bool.{Bool, true, false, cond}
+use mathlib.Core.List.{List, [], _∷_, _++_}
+use Prim.Native.Nat.{ℕ, _+_, _*_, _≤_, _<_}
+use native.Mathlib.Omega.{arith}
+use lib.IntN.{ℤ}
+use lib.Dec.{ltb}
+use lib.ListN.{length}
+use borrow.Author.Tests.{lt-ltb, le-ltb}
+use Rattle.zone.specs.declared.Zone.{Zone}
+use Rattle.zone.specs.declared.MaybeZone.the-variants.{Zone as zone}
+use Rattle.zone.specs.Words.{zoneAt, codes, overwrite}
+use Rattle.zone.proofs.Words.{written-zone}
+use Rattle.list.specs.Insert.{covered, outside, Put, away, placed, full, insert, insert-each}
+use Rattle.list.specs.Slots.{listAt, Holds, Kept, Placement, InsertAs}
+use Rattle.list.specs.Steps.{Mark, GrowsAs}
+use Rattle.list.specs.declared.Inserted.{Inserted}
+use Rattle.list.specs.declared.Inserted.the-variants.{Away, Placed, Full}
+use Rattle.list.specs.declared.Grown.{Grown}
+use Rattle.list.specs.declared.Grown.the-variants.{Grew, TooMany}
+use Rattle.list.proofs.Slots.{listAt-length, holds-more, kept-refl, kept-trans, kept-within, kept-written}
+use Rattle.list.proofs.Loops.{mark-placed}
+
+module _ (z : Zone) (L : List Zone) where
+  pub insert-away : covered z L ≡ true → insert z L ≡ away
+  unfolding insert
+  insert-away e = rw e
+
+  pub insert-placed : covered z L ≡ false → length (outside z L) < 128 → insert z L ≡ placed (outside z L ++ (z ∷ []))
+  unfolding insert
+  insert-placed e h = rw (e, lt-ltb (length (outside z L)) 128 h)
+
+  pub insert-full : covered z L ≡ false → 128 ≤ length (outside z L) → insert z L ≡ full
+  unfolding insert
+  insert-full e h = rw (e, le-ltb (length (outside z L)) 128 h)
+
+-- ---- a put into a slot
+
+-- the six words of a zone hold it
+pub held : (z : Zone) {us : List ℤ} (vs : List ℤ) → us ≡ overwrite vs 0 (codes z) → 6 ≤ length vs → zoneAt us 0 ≡ z
+held z {us} vs e h = ap (λ (ws : List ℤ). zoneAt ws 0) e ∙ written-zone vs 0 z (omega arith)
+
+module _ (z : Zone) (ws : List ℤ) {us : List ℤ} (base n : ℕ) {m : ℕ} (new : covered z (listAt ws base n) ≡ false) (left : Holds us base m (outside z (listAt ws base n))) where
+  pub no-place : 128 ≤ m → insert z (listAt ws base n) ≡ full
+  no-place h = insert-full z (listAt ws base n) new (omega (arith, left .count))
+
+  pub placement : {vs : List ℤ} → Kept base 768 ws us → m < 128 → base + 768 ≤ length ws → vs ≡ overwrite us (base + m * 6) (codes z) → Placement z ws base n vs (m + 1)
+  placement {vs} k h fits e =
+      let room : base + 768 ≤ length us = omega (arith, k .same-length) in
+      record {
+        list = outside z (listAt ws base n) ++ (z ∷ []);
+        value = insert-placed z (listAt ws base n) new (omega (arith, left .count));
+        holds = subst (λ (xs : List ℤ). Holds xs base (m + 1) (outside z (listAt ws base n) ++ (z ∷ []))) (sym e) (holds-more z left h room);
+        kept = subst (λ (xs : List ℤ). Kept base 768 ws xs) (sym e) (kept-trans k (kept-within (omega arith) (omega arith) (kept-written us (base + m * 6) z (omega arith))));
+      }
+
+-- ---- a list that grows
+
+pub holds-same : (ws : List ℤ) (base n : ℕ) → n ≤ 128 → Holds ws base n (listAt ws base n)
+holds-same ws base n h = record { count = listAt-length ws base n; few = h; zones = refl }
+
+-- the answer of `grow` to the answer of a put
+abbrev pub grown-by : Bool → ℕ → Inserted → Grown
+grown-by changed n Away = Grew n changed
+grown-by changed n (Placed k) = Grew k true
+grown-by changed n Full = TooMany
+
+module _ (z : Zone) (ws vs : List ℤ) (target n : ℕ) (changed : Bool) (few : n ≤ 128) where
+  -- what the answer to a put means for the puts of one zone
+  pub grown : (r : Inserted) → InsertAs z ws target n vs r → GrowsAs (insert-each (zone z ∷ []) (listAt ws target n)) changed (listAt ws target n) vs target (grown-by changed n r)
+  unfolding insert-each
+  grown Away a =
+      record {
+        list = listAt ws target n;
+        value = rw (a .0);
+        holds = subst (λ (xs : List ℤ). Holds xs target n (listAt ws target n)) (sym (a .1)) (holds-same ws target n few);
+        marks = λ S m. m;
+      }
+  grown (Placed k) p = record { list = p .list; value = rw (p .value); holds = p .holds; marks = λ S m. mark-placed changed z (listAt ws target n) m (p .value) }
+  grown Full a = rw (a .0)
+
+  pub grown-kept : (r : Inserted) → InsertAs z ws target n vs r → Kept target 768 ws vs
+  grown-kept Away a = subst (λ (xs : List ℤ). Kept target 768 ws xs) (sym (a .1)) (kept-refl target 768 ws)
+  grown-kept (Placed k) p = p .kept
+  grown-kept Full a = a .1

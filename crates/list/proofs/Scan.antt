@@ -1,0 +1,94 @@
+-- The loops that go over a list once: what is left of it, and what the zone at hand decides.
+use mathlib.Core.Path.{_≡_, refl, sym, ap, subst, _∙_}
+use mathlib.Core.Bool.{Bool, true, false, not, cond, _||_}
+use mathlib.Core.Logic.{_⊎_, inl, inr}
+use mathlib.Core.List.{List, [], _∷_, _++_, append-assoc, append-nil}
+use Prim.Native.Nat.{ℕ, zero, suc, _+_, _-_, _*_, _≤_, _<_}
+use native.Mathlib.Omega.{arith}
+use native.Mathlib.Numerals.{add-one}
+use lib.IntN.{ℤ}
+use lib.ListN.{length}
+use Rattle.zone.specs.declared.Zone.{Zone}
+use Rattle.zone.specs.Zone.{contains}
+use Rattle.zone.specs.Words.{zoneAt}
+use Rattle.list.specs.Insert.{covered, outside}
+use Rattle.zone.proofs.Words.{same-zone}
+use Rattle.list.specs.Slots.{listAt, Holds, Kept}
+use Rattle.list.specs.Steps.{Copied, KeepsAs}
+use Rattle.list.proofs.Slots.{listAt-length, listAt-next, listAt-snoc, kept-refl, listAt-kept, listAt-copied, listAt-same, kept-trans, kept-within}
+
+pub nothing-left : (ws : List ℤ) (a n i : ℕ) → n ≤ i → listAt ws a (n - i) ≡ []
+unfolding listAt
+nothing-left ws a n i h = let e : n - i ≡ 0 = omega arith in ap (listAt ws a) e
+
+-- ---- whether a zone is covered
+
+module _ (z : Zone) (ws : List ℤ) (base n i : ℕ) where
+  rest : Bool
+  rest = covered z (listAt ws (base + i * 6) (n - i))
+
+  module _ {b total : Bool} (l : i < n) (e : b ≡ contains (zoneAt ws (base + i * 6)) z) (k : covered z (listAt ws (base + i * 6) (n - i)) ≡ total) where
+    step : total ≡ b || covered z (listAt ws (base + (i + 1) * 6) (n - (i + 1)))
+    unfolding covered
+    step = sym k ∙ ap (covered z) (listAt-next ws base n i l) ∙ ap (λ (c : Bool). c || covered z (listAt ws (base + (i + 1) * 6) (n - (i + 1)))) (sym e)
+
+    pub covered-here : b ≡ true → true ≡ total
+    covered-here t = sym (step ∙ rw t)
+
+    pub covered-on : b ≡ false → covered z (listAt ws (base + (i + 1) * 6) (n - (i + 1))) ≡ total
+    covered-on f = sym (step ∙ rw f)
+
+  pub covered-end : {total : Bool} → n ≤ i → covered z (listAt ws (base + i * 6) (n - i)) ≡ total → false ≡ total
+  unfolding covered
+  covered-end h k = ap (covered z) (sym (nothing-left ws (base + i * 6) n i h)) ∙ k
+
+-- ---- the zones outside a new one
+
+-- the first i of n zones have been gone through: those outside z are the first `kept`, and the rest are where they were
+pub record Sifting (z : Zone) (base n : ℕ) (ws₀ ws : List ℤ) (kept i : ℕ) : Type 0 where
+  pub fewer : kept ≤ i
+  pub most : i ≤ n
+  pub value : outside z (listAt ws₀ base n) ≡ listAt ws base kept ++ outside z (listAt ws (base + i * 6) (n - i))
+  pub frame : Kept base 768 ws₀ ws
+
+pub sift-start : (z : Zone) (base n : ℕ) (ws : List ℤ) → Sifting z base n ws ws 0 0
+unfolding listAt
+sift-start z base n ws =
+    let e : base + 0 * 6 ≡ base = omega arith in
+    let f : n - 0 ≡ n = omega arith in
+    record { fewer = omega arith; most = omega arith; value = rw (e, f); frame = kept-refl base 768 ws }
+
+module _ {z : Zone} {base n : ℕ} {ws₀ ws : List ℤ} {kept i : ℕ} (s : Sifting z base n ws₀ ws kept i) (l : i < n) (few : n ≤ 128) where
+  rests : (b : Bool) → contains z (zoneAt ws (base + i * 6)) ≡ b
+      → outside z (listAt ws₀ base n) ≡ listAt ws base kept ++ cond b (outside z (listAt ws (base + (i + 1) * 6) (n - (i + 1)))) (zoneAt ws (base + i * 6) ∷ outside z (listAt ws (base + (i + 1) * 6) (n - (i + 1))))
+  unfolding outside
+  rests b e =
+      s .value
+      ∙ ap (λ (m : List Zone). listAt ws base kept ++ outside z m) (listAt-next ws base n i l)
+      ∙ ap (λ (c : Bool). listAt ws base kept ++ cond c (outside z (listAt ws (base + (i + 1) * 6) (n - (i + 1)))) (zoneAt ws (base + i * 6) ∷ outside z (listAt ws (base + (i + 1) * 6) (n - (i + 1))))) e
+
+  settled : {vs : List ℤ} {r : ℕ} (b : Bool) → contains z (zoneAt ws (base + i * 6)) ≡ b → KeepsAs b (base + i * 6) base kept ws vs r → Sifting z base n ws₀ vs r (i + 1)
+  settled {vs} {r} true e k =
+      subst (λ (us : List ℤ). Sifting z base n ws₀ us r (i + 1)) (sym (k .1))
+      (subst (λ (m : ℕ). Sifting z base n ws₀ ws m (i + 1)) (sym (k .0))
+      (record { fewer = omega (arith, s .fewer); most = omega arith; value = rests true e; frame = s .frame }))
+  settled {vs} {r} false e k =
+      let y = zoneAt ws (base + i * 6) in
+      let c = k .1 in
+      let front : listAt vs base kept ≡ listAt ws base kept = listAt-kept base kept (c .kept) (inl (omega arith)) in
+      let new : zoneAt vs (base + kept * 6) ≡ y = same-zone vs ws (base + kept * 6) (base + i * 6) (c .moved) in
+      let back : listAt vs (base + (i + 1) * 6) (n - (i + 1)) ≡ listAt ws (base + (i + 1) * 6) (n - (i + 1)) = listAt-kept (base + (i + 1) * 6) (n - (i + 1)) (c .kept) (inr (omega (arith, s .fewer))) in
+      let both : listAt vs base (suc kept) ≡ listAt ws base kept ++ (y ∷ []) = listAt-snoc vs base kept ∙ (λ j. front j ++ (new j ∷ [])) in
+      let all : outside z (listAt ws₀ base n) ≡ listAt vs base (suc kept) ++ outside z (listAt vs (base + (i + 1) * 6) (n - (i + 1))) =
+      rests false e ∙ sym (append-assoc (listAt ws base kept) (y ∷ []) (outside z (listAt ws (base + (i + 1) * 6) (n - (i + 1))))) ∙ (λ j. sym both j ++ outside z (sym back j)) in
+      subst (λ (m : ℕ). Sifting z base n ws₀ vs m (i + 1)) (sym (add-one kept) ∙ sym (k .0))
+      (record { fewer = omega (arith, s .fewer); most = omega arith; value = all; frame = kept-trans (s .frame) (kept-within (omega arith) (omega (arith, s .fewer)) (c .kept)) })
+
+  pub sift-step : {vs : List ℤ} {r : ℕ} → KeepsAs (contains z (zoneAt ws (base + i * 6))) (base + i * 6) base kept ws vs r → Sifting z base n ws₀ vs r (i + 1)
+  sift-step = settled (contains z (zoneAt ws (base + i * 6))) refl
+
+pub sift-end : {z : Zone} {base n : ℕ} {ws₀ ws : List ℤ} {kept i : ℕ} → Sifting z base n ws₀ ws kept i → n ≤ i → n ≤ 128 → Holds ws base kept (outside z (listAt ws₀ base n))
+unfolding outside
+sift-end {z} {base} {n} {ws₀} {ws} {kept} {i} s h few =
+    let e : outside z (listAt ws₀ base n) ≡ listAt ws base kept = s .value ∙ ap (λ (m : List Zone). listAt ws base kept ++ outside z m) (nothing-left ws (base + i * 6) n i h) ∙ append-nil (listAt ws base kept) in
+    record { count = ap length e ∙ listAt-length ws base kept; few = omega (arith, s .fewer, s .most); zones = sym e }

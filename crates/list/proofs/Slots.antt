@@ -1,0 +1,134 @@
+-- Lists in slots: what a slot holds after words were copied, and after words elsewhere were written.
+use mathlib.Core.Path.{_≡_, refl, sym, ap, subst, _∙_}
+use mathlib.Core.Bool.{Bool, true, false}
+use mathlib.Core.Logic.{_⊎_, inl, inr, ⊎-elim}
+use mathlib.Core.List.{List, [], _∷_, _++_}
+use Prim.Native.Nat.{ℕ, zero, suc, _+_, _-_, _*_, _≤_, _<_}
+use native.Mathlib.Omega.{arith}
+use lib.Dec.{ltb}
+use lib.IntN.{ℤ, pos}
+use lib.ListN.{length, getD, set, length-set}
+use lib.Seq.{getD-set-same, getD-set-other}
+use borrow.Author.Tests.{ltb-true, ltb-false}
+use Rattle.zone.specs.declared.Zone.{Zone}
+use Rattle.zone.specs.Words.{word, zoneAt, codes, overwrite}
+use Rattle.zone.proofs.Words.{same-zone, written-zone, overwrite-length, overwrite-below, overwrite-above}
+use Rattle.list.specs.Slots.{listAt, Holds, Kept, Disjoint}
+use Rattle.list.specs.Steps.{Copied}
+
+pub below-or-not : (a b : ℕ) → (a < b) ⊎ (b ≤ a)
+below-or-not a b = go (ltb a b) refl
+  where
+    go : (t : Bool) → ltb a b ≡ t → (a < b) ⊎ (b ≤ a)
+    go true e = inl (ltb-true a b e)
+    go false e = inr (ltb-false a b e)
+
+-- ---- words that were kept
+
+pub kept-refl : (base size : ℕ) (ws : List ℤ) → Kept base size ws ws
+kept-refl base size ws = record { same-length = refl; below = λ k h. refl; above = λ k h. refl }
+
+pub kept-trans : {base size : ℕ} {us vs ws : List ℤ} → Kept base size us vs → Kept base size vs ws → Kept base size us ws
+kept-trans p q = record { same-length = q .same-length ∙ p .same-length; below = λ k h. q .below k h ∙ p .below k h; above = λ k h. q .above k h ∙ p .above k h }
+
+-- words written inside a part of a region
+pub kept-within : {b s base size : ℕ} {ws vs : List ℤ} → base ≤ b → b + s ≤ base + size → Kept b s ws vs → Kept base size ws vs
+kept-within h g p = record { same-length = p .same-length; below = λ k l. p .below k (omega arith); above = λ k l. p .above k (omega arith) }
+
+-- a region that has no word in common with the one that was written
+pub kept-apart : {base size a n : ℕ} {ws vs : List ℤ} → Kept base size ws vs → (a + n ≤ base) ⊎ (base + size ≤ a) → (k : ℕ) → k < n → word vs (a + k) ≡ word ws (a + k)
+kept-apart p (inl h) k l = p .below _ (omega arith)
+kept-apart p (inr h) k l = p .above _ (omega arith)
+
+-- ---- the list of a slot
+
+pub listAt-length : (ws : List ℤ) (base n : ℕ) → length (listAt ws base n) ≡ n
+unfolding listAt
+listAt-length ws base zero = refl
+listAt-length ws base (suc n) = ap suc (listAt-length ws (base + 6) n)
+
+-- the same words hold the same list
+pub listAt-same : (ws vs : List ℤ) (a b n : ℕ) → ((k : ℕ) → k < n * 6 → word vs (b + k) ≡ word ws (a + k)) → listAt vs b n ≡ listAt ws a n
+unfolding listAt
+listAt-same ws vs a b zero f = refl
+listAt-same ws vs a b (suc n) f =
+    let head : zoneAt vs b ≡ zoneAt ws a = same-zone vs ws b a (λ k h. f k (omega arith)) in
+    let tail : listAt vs (b + 6) n ≡ listAt ws (a + 6) n = listAt-same ws vs (a + 6) (b + 6) n (λ k h. ap (word vs) (omega arith) ∙ f (6 + k) (omega arith) ∙ ap (word ws) (omega arith)) in
+    λ i. head i ∷ tail i
+
+pub listAt-kept : (a n : ℕ) {base size : ℕ} {ws vs : List ℤ} → Kept base size ws vs → (a + n * 6 ≤ base) ⊎ (base + size ≤ a) → listAt vs a n ≡ listAt ws a n
+listAt-kept a n {ws = ws} {vs = vs} p h = listAt-same ws vs a a n (kept-apart p h)
+
+-- the list of a slot while another slot is written
+pub list-there : (from n : ℕ) {target : ℕ} {ws vs : List ℤ} → Kept target 768 ws vs → Disjoint from target → n ≤ 128 → listAt vs from n ≡ listAt ws from n
+list-there from n k (inl h) few = listAt-kept from n k (inl (omega arith))
+list-there from n k (inr h) few = listAt-kept from n k (inr h)
+
+pub listAt-copied : {from to : ℕ} (n : ℕ) {ws vs : List ℤ} → Copied from to (n * 6) ws vs → listAt vs to n ≡ listAt ws from n
+listAt-copied {from} {to} n {ws} {vs} c = listAt-same ws vs from to n (c .moved)
+
+-- the zones from the i-th on: the i-th, and those after it
+pub listAt-next : (ws : List ℤ) (base n i : ℕ) → i < n → listAt ws (base + i * 6) (n - i) ≡ zoneAt ws (base + i * 6) ∷ listAt ws (base + (i + 1) * 6) (n - (i + 1))
+unfolding listAt
+listAt-next ws base n i h =
+    let e : n - i ≡ suc (n - (i + 1)) = omega arith in
+    let f : base + i * 6 + 6 ≡ base + (i + 1) * 6 = omega arith in
+    ap (listAt ws (base + i * 6)) e ∙ ap (λ (a : ℕ). zoneAt ws (base + i * 6) ∷ listAt ws a (n - (i + 1))) f
+
+-- one zone more, at the end
+pub listAt-snoc : (ws : List ℤ) (base n : ℕ) → listAt ws base (suc n) ≡ listAt ws base n ++ (zoneAt ws (base + n * 6) ∷ [])
+unfolding listAt
+listAt-snoc ws base zero = let e : base ≡ base + 0 * 6 = omega arith in ap (λ (a : ℕ). zoneAt ws a ∷ []) e
+listAt-snoc ws base (suc n) =
+    let e : base + 6 + n * 6 ≡ base + suc n * 6 = omega arith in
+    ap (λ (l : List Zone). zoneAt ws base ∷ l) (listAt-snoc ws (base + 6) n ∙ ap (λ (a : ℕ). listAt ws (base + 6) n ++ (zoneAt ws a ∷ [])) e)
+
+-- ---- copying word by word
+
+pub copied-none : (from to : ℕ) (ws : List ℤ) → Copied from to 0 ws ws
+copied-none from to ws = record { moved = λ k h. absurd (omega arith); kept = kept-refl to 0 ws }
+
+-- a word that is still to be copied has not been written
+unwritten : {from to n k : ℕ} {ws vs : List ℤ} → Copied from to k ws vs → (to ≤ from) ⊎ (from + n ≤ to) → k < n → word vs (from + k) ≡ word ws (from + k)
+unwritten c (inl h) l = c .kept .above _ (omega arith)
+unwritten c (inr h) l = c .kept .below _ (omega arith)
+
+pub copied-more : {from to n k : ℕ} {ws vs : List ℤ} → Copied from to k ws vs → (to ≤ from) ⊎ (from + n ≤ to) → k < n → to + n ≤ length vs → Copied from to (k + 1) ws (set vs (to + k) (word vs (from + k)))
+copied-more {from} {to} {n} {k} {ws} {vs} c h l fits =
+    record {
+      moved = λ j g. ⊎-elim (λ b. other (to + j) (omega arith) ∙ c .moved j b) (λ b. here j (omega arith)) (below-or-not j k);
+      kept =
+          record {
+            same-length = length-set vs (to + k) (word vs (from + k)) ∙ c .kept .same-length;
+            below = λ j g. other j (omega arith) ∙ c .kept .below j g;
+            above = λ j g. other j (omega arith) ∙ c .kept .above j (omega arith);
+          };
+    }
+  where
+    other : (j : ℕ) → (j ≡ to + k → ⊥) → word (set vs (to + k) (word vs (from + k))) j ≡ word vs j
+    other j e = getD-set-other vs (to + k) j (word vs (from + k)) (pos 0) e
+
+    here : (j : ℕ) → j ≡ k → word (set vs (to + k) (word vs (from + k))) (to + j) ≡ word ws (from + j)
+    here j e =
+        subst (λ (m : ℕ). word (set vs (to + k) (word vs (from + k))) (to + m) ≡ word ws (from + m)) (sym e)
+        (getD-set-same vs (to + k) (word vs (from + k)) (pos 0) (omega arith) ∙ unwritten c h l)
+
+-- ---- a zone written behind the list
+
+pub kept-written : (ws : List ℤ) (at : ℕ) (z : Zone) → at + 6 ≤ length ws → Kept at 6 ws (overwrite ws at (codes z))
+kept-written ws at z h = record { same-length = overwrite-length ws at (codes z) h; below = overwrite-below ws at (codes z) h; above = overwrite-above ws at (codes z) h }
+
+pub holds-more : {ws : List ℤ} {base n : ℕ} {L : List Zone} (z : Zone) → Holds ws base n L → n < 128 → base + 768 ≤ length ws → Holds (overwrite ws (base + n * 6) (codes z)) base (n + 1) (L ++ (z ∷ []))
+holds-more {ws} {base} {n} {L} z h l fits =
+    let at = base + n * 6 in
+    let room : at + 6 ≤ length ws = omega arith in
+    let vs = overwrite ws at (codes z) in
+    let k = kept-written ws at z room in
+    record {
+      count = simp lib.ListN.length-append (omega (arith, h .count));
+      few = omega arith;
+      zones =
+          ap (listAt vs base) (native.Mathlib.Numerals.add-one n)
+          ∙ listAt-snoc vs base n
+          ∙ (λ i. (listAt-kept base n k (inl (omega arith)) ∙ h .zones) i ++ (written-zone ws at z room i ∷ []));
+    }

@@ -1,0 +1,83 @@
+use Rattle.list.proofs.Turning.{Turning, turn-start, turn-apart, turn-inner, turn-room, turn-sound, inner-sound, turn-bound, turn-kept, turn-next, turn-end, turn-over}
+use borrow.Author.Needs.{needs}
+use native.Mathlib.Omega.{arith}
+use mathlib.Core.Path.{_∙_}
+use Prim.Native.Nat.{_+_, _-_}
+use Rattle.list.proofs.all_rounds.Statement.{statement}
+use Rattle.list.proofs.all_rounds.Tie as tie
+use Rattle.list.proofs.all_rounds.Reads as reads
+use Rattle.list.proofs.all_rounds.Lts as lts
+use Rattle.list.proofs.one_round.Reads as one-round-reads
+
+abbrev Inv-loop : tie.InvT-loop
+Inv-loop words₀ inner m first second list₀ copy₀ n₀ made₀ words list copy n made = Turning inner m first second words₀ words list copy n made
+
+abbrev μ-loop : tie.MeasureT-loop
+μ-loop words₀ inner m first second list₀ copy₀ n₀ made₀ words list copy n made = (m + 1_000_000) - made
+
+loop-holds : tie.Need-loop-holds Inv-loop μ-loop
+loop-holds c = turn-start (c .pre .0) (c .pre .4) (c .pre .5) (c .pre .6) (c .pre .7) (c .pre .8)
+
+add-made : tie.Need-add-made Inv-loop μ-loop
+add-made c = omega (arith, turn-bound (c .before .pre .0) (c .before .pre .4) (c .before .pre .5) (c .before .pre .6) (c .before .pre .7) (c .loop .inv))
+
+one-round-requires : tie.Need-one-round-requires Inv-loop μ-loop
+one-round-requires c κs =
+    let t = c .before .loop .inv in
+    let room = turn-room (c .before .before .pre .0) (c .before .before .pre .4) (c .before .before .pre .5) (c .before .before .pre .6) (c .before .before .pre .7) t (c .before .before .pre .2) (c .before .before .pre .3) in (
+      t .few,
+      c .before .before .pre .0,
+      room .0,
+      omega (arith, t .frame .same-length),
+      room .1,
+      turn-apart (c .before .before .pre .0) (c .before .before .pre .4) (c .before .before .pre .5) (c .before .before .pre .6) (c .before .before .pre .7) t,
+      turn-inner (c .before .before .pre .0) (c .before .before .pre .4) (c .before .before .pre .5) (c .before .before .pre .6) (c .before .before .pre .7) t,
+      turn-sound (c .before .before .pre .0) (c .before .before .pre .4) (c .before .before .pre .5) (c .before .before .pre .6) (c .before .before .pre .7) t,
+      inner-sound (c .before .before .pre .0) (c .before .before .pre .4) (c .before .before .pre .5) (c .before .before .pre .6) (c .before .before .pre .7) t,
+    )
+
+enum-told : tie.Need-enum-told Inv-loop μ-loop
+enum-told c = search needs
+
+same-length : tie.Need-same-length Inv-loop μ-loop
+same-length c = c .before .before .before .one-round .ensures .1 .same-length ∙ c .before .before .before .before .before .loop .inv .frame .same-length
+
+returns : tie.Need-returns Inv-loop μ-loop
+returns c = (turn-end (c .before .before .before .before .before .before .pre .0) (c .before .before .before .before .before .before .pre .4) (c .before .before .before .before .before .before .pre .5) (c .before .before .before .before .before .before .pre .6) (c .before .before .before .before .before .before .pre .7) (c .before .before .before .before .before .loop .inv) (rw (c .enum-told .given .1) at (c .before .before .before .one-round .ensures .0)) (c .before .before .before .one-round .ensures .1), turn-kept (c .before .before .before .before .before .before .pre .0) (c .before .before .before .before .before .before .pre .4) (c .before .before .before .before .before .before .pre .5) (c .before .before .before .before .before .before .pre .6) (c .before .before .before .before .before .before .pre .7) (c .before .before .before .before .before .loop .inv) (c .before .before .before .one-round .ensures .1))
+
+enum-known-k : tie.Need-enum-known-k Inv-loop μ-loop
+enum-known-k c = search needs
+
+loop-less : tie.Need-loop-less Inv-loop μ-loop
+loop-less c = omega (arith, turn-bound (c .before .before .before .before .before .before .before .pre .0) (c .before .before .before .before .before .before .before .pre .4) (c .before .before .before .before .before .before .before .pre .5) (c .before .before .before .before .before .before .before .pre .6) (c .before .before .before .before .before .before .before .pre .7) (c .before .before .before .before .before .before .loop .inv))
+
+loop-again : tie.Need-loop-again Inv-loop μ-loop
+loop-again c = turn-next (c .before .before .before .before .before .before .before .pre .0) (c .before .before .before .before .before .before .before .pre .4) (c .before .before .before .before .before .before .before .pre .5) (c .before .before .before .before .before .before .before .pre .6) (c .before .before .before .before .before .before .before .pre .7) (c .before .before .before .before .before .before .loop .inv) (rw (c .before .k .given .1) at (c .before .before .before .before .one-round .ensures .0)) (c .before .before .before .before .one-round .ensures .1)
+
+enum-told-2 : tie.Need-enum-told-2 Inv-loop μ-loop
+enum-told-2 c = search needs
+
+same-length-2 : tie.Need-same-length-2 Inv-loop μ-loop
+same-length-2 c = c .before .before .before .one-round .ensures .1 .same-length ∙ c .before .before .before .before .before .loop .inv .frame .same-length
+
+returns-2 : tie.Need-returns-2 Inv-loop μ-loop
+returns-2 c = (turn-over (c .before .before .before .before .before .before .pre .0) (c .before .before .before .before .before .before .pre .4) (c .before .before .before .before .before .before .pre .5) (c .before .before .before .before .before .before .pre .6) (c .before .before .before .before .before .before .pre .7) (c .before .before .before .before .before .loop .inv) (rw (c .enum-told2 .given .1) at (c .before .before .before .one-round .ensures .0)), turn-kept (c .before .before .before .before .before .before .pre .0) (c .before .before .before .before .before .before .pre .4) (c .before .before .before .before .before .before .pre .5) (c .before .before .before .before .before .before .pre .6) (c .before .before .before .before .before .before .pre .7) (c .before .before .before .before .before .loop .inv) (c .before .before .before .one-round .ensures .1))
+
+pub all-rounds-spec : {M : Type 1} → statement M
+all-rounds-spec =
+    tie.close
+    (tie.spec
+    Inv-loop
+    μ-loop
+    loop-holds
+    add-made
+    one-round-requires
+    enum-told
+    same-length
+    returns
+    enum-known-k
+    loop-less
+    loop-again
+    enum-told-2
+    same-length-2
+    returns-2)

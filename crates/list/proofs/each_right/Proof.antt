@@ -1,0 +1,117 @@
+use Rattle.list.proofs.Growing.{Going, going-start, going-same, going-past, going-on, going-over, going-end, going-next, all-left, sound-there, apply-sound}
+use Rattle.list.proofs.Scan.{nothing-left}
+use Rattle.list.proofs.Slots.{kept-trans}
+use Rattle.list.specs.Slots.{listAt}
+use Rattle.list.specs.Operators.{apply}
+use Rattle.list.specs.Insert.{insert-each}
+use Rattle.zone.proofs.Laws.{ranged}
+use Rattle.zone.specs.declared.MaybeZone.the-variants.{Zone as zone}
+use borrow.Author.Needs.{needs}
+use native.Mathlib.Omega.{arith}
+use mathlib.Core.List.{[], _∷_, map}
+use mathlib.Core.Path.{_≡_, refl, sym, ap, _∙_}
+use Prim.Native.Nat.{_+_, _-_, _*_, _≤_}
+use Rattle.list.proofs.each_right.Statement.{statement}
+use Rattle.list.proofs.each_right.Tie as tie
+use Rattle.list.proofs.each_right.Reads as reads
+use Rattle.list.proofs.each_right.Lts as lts
+use Rattle.list.proofs.apply.Reads as apply-reads
+use Rattle.list.proofs.grow.Reads as grow-reads
+use Rattle.zone.proofs.read_zone.Reads as read-zone-reads
+
+abbrev Inv-loop : tie.InvT-loop
+Inv-loop words₀ op z right m target count changed n₀ mark₀ j₀ words n mark j = (j ≤ m) × Going (map (apply op z) (listAt words₀ (right + j * 6) (m - j))) (insert-each (map (apply op z) (listAt words₀ right m)) (listAt words₀ target count)) changed (listAt words₀ target count) target words₀ words n mark
+
+abbrev μ-loop : tie.MeasureT-loop
+μ-loop words₀ op z right m target count changed n₀ mark₀ j₀ words n mark j = m - j
+
+loop-holds : tie.Need-loop-holds Inv-loop μ-loop
+loop-holds c = (omega arith, going-same (ap (map (apply (c .args .op) (c .args .z))) (sym (all-left _ _ _))) (going-start _ _ _ _ _ (c .pre .1)))
+
+mul-read-zone : tie.Need-mul-read-zone Inv-loop μ-loop
+mul-read-zone c = omega arith
+
+add-read-zone : tie.Need-add-read-zone Inv-loop μ-loop
+add-read-zone c = omega arith
+
+read-zone-requires : tie.Need-read-zone-requires Inv-loop μ-loop
+read-zone-requires c κs = omega (arith, c .before .before .loop .inv .1 .frame .same-length)
+
+add-j : tie.Need-add-j Inv-loop μ-loop
+add-j c = omega arith
+
+apply-requires : tie.Need-apply-requires Inv-loop μ-loop
+apply-requires c κs = (ranged (c .before .before .before .before .pre .5), ranged (sound-there (c .before .before .before .before .pre .6) (c .before .before .before .loop .inv .1 .frame) (c .before .before .before .before .pre .4) (c .before .before .loop-test .taken) (c .before .before .before .before .pre .0) (c .read-zone .ensures)))
+
+enum-known-v : tie.Need-enum-known-v Inv-loop μ-loop
+enum-known-v c = search needs
+
+enum-told : tie.Need-enum-told Inv-loop μ-loop
+enum-told c = search needs
+
+loop-less : tie.Need-loop-less Inv-loop μ-loop
+loop-less c = omega arith
+
+loop-again : tie.Need-loop-again Inv-loop μ-loop
+loop-again c = (omega arith, going-past (going-next _ _ _ (c .before .before .before .before .before .loop-test .taken) (c .before .before .before .before .before .before .before .pre .0) (c .before .before .before .before .before .before .before .pre .4) (c .before .before .before .read-zone .ensures) (apply (c .before .before .before .before .before .before .before .args .op) (c .before .before .before .before .before .before .before .args .z)) (c .before .before .before .before .before .before .loop .inv .1) (sym (c .before .before .apply .ensures) ∙ c .enum-told .given .1)))
+
+grow-requires : tie.Need-grow-requires Inv-loop μ-loop
+grow-requires c κs = (
+  c .before .before .before .before .before .before .before .before .loop .inv .1 .few,
+  omega (arith, c .before .before .before .before .before .before .before .before .loop .inv .1 .frame .same-length),
+  ranged (apply-sound (c .before .before .before .before .before .before .before .before .before .args .op) (c .before .before .before .before .before .before .before .before .before .args .z) (c .before .before .before .before .before .read-zone .result) (c .before .before .before .before .before .before .before .before .before .pre .5) (sound-there (c .before .before .before .before .before .before .before .before .before .pre .6) (c .before .before .before .before .before .before .before .before .loop .inv .1 .frame) (c .before .before .before .before .before .before .before .before .before .pre .4) (c .before .before .before .before .before .before .before .loop-test .taken) (c .before .before .before .before .before .before .before .before .before .pre .0) (c .before .before .before .before .before .read-zone .ensures)) (sym (c .before .before .before .before .apply .ensures) ∙ c .before .before .v .given .1)),
+)
+
+enum-known-k : tie.Need-enum-known-k Inv-loop μ-loop
+enum-known-k c = search needs
+
+enum-told-2 : tie.Need-enum-told-2 Inv-loop μ-loop
+enum-told-2 c = search needs
+
+same-length : tie.Need-same-length Inv-loop μ-loop
+same-length c = c .before .before .before .grow .ensures .1 .same-length ∙ c .before .before .before .before .before .before .before .before .before .before .before .before .loop .inv .1 .frame .same-length
+
+returns : tie.Need-returns Inv-loop μ-loop
+returns c =
+    let g = going-next _ _ _ (c .before .before .before .before .before .before .before .before .before .before .before .loop-test .taken) (c .before .before .before .before .before .before .before .before .before .before .before .before .before .pre .0) (c .before .before .before .before .before .before .before .before .before .before .before .before .before .pre .4) (c .before .before .before .before .before .before .before .before .before .read-zone .ensures) (apply (c .before .before .before .before .before .before .before .before .before .before .before .before .before .args .op) (c .before .before .before .before .before .before .before .before .before .before .before .before .before .args .z)) (c .before .before .before .before .before .before .before .before .before .before .before .before .loop .inv .1) (sym (c .before .before .before .before .before .before .before .before .apply .ensures) ∙ c .before .before .before .before .before .before .v .given .1) in
+    (going-over (zone (c .before .before .before .before .before .before .v .given .0 .0) ∷ []) _ g (rw (c .enum-told2 .given .1) at (c .before .before .before .grow .ensures .0)), kept-trans (c .before .before .before .before .before .before .before .before .before .before .before .before .loop .inv .1 .frame) (c .before .before .before .grow .ensures .1))
+
+loop-less-2 : tie.Need-loop-less-2 Inv-loop μ-loop
+loop-less-2 c = omega arith
+
+loop-again-2 : tie.Need-loop-again-2 Inv-loop μ-loop
+loop-again-2 c =
+    let g = going-next _ _ _ (c .before .before .before .before .before .before .before .before .before .before .before .before .loop-test .taken) (c .before .before .before .before .before .before .before .before .before .before .before .before .before .before .pre .0) (c .before .before .before .before .before .before .before .before .before .before .before .before .before .before .pre .4) (c .before .before .before .before .before .before .before .before .before .before .read-zone .ensures) (apply (c .before .before .before .before .before .before .before .before .before .before .before .before .before .before .args .op) (c .before .before .before .before .before .before .before .before .before .before .before .before .before .before .args .z)) (c .before .before .before .before .before .before .before .before .before .before .before .before .before .loop .inv .1) (sym (c .before .before .before .before .before .before .before .before .before .apply .ensures) ∙ c .before .before .before .before .before .before .before .v .given .1) in
+    (omega arith, going-on (zone (c .before .before .before .before .before .before .before .v .given .0 .0) ∷ []) _ g (rw (c .before .k .given .1) at (c .before .before .before .before .grow .ensures .0)) (c .before .before .before .before .grow .ensures .1))
+
+same-length-2 : tie.Need-same-length-2 Inv-loop μ-loop
+same-length-2 c = c .before .loop .inv .1 .frame .same-length
+
+returns-2 : tie.Need-returns-2 Inv-loop μ-loop
+returns-2 c = (going-end (ap (map (apply (c .before .before .args .op) (c .before .before .args .z))) (nothing-left _ _ _ _ (c .loop-test .left))) (c .before .loop .inv .1), c .before .loop .inv .1 .frame)
+
+pub each-right-spec : {M : Type 1} → statement M
+each-right-spec =
+    tie.close
+    (tie.spec
+    Inv-loop
+    μ-loop
+    loop-holds
+    mul-read-zone
+    add-read-zone
+    read-zone-requires
+    add-j
+    apply-requires
+    enum-known-v
+    enum-told
+    loop-less
+    loop-again
+    grow-requires
+    enum-known-k
+    enum-told-2
+    same-length
+    returns
+    loop-less-2
+    loop-again-2
+    same-length-2
+    returns-2)

@@ -1,0 +1,44 @@
+use Rattle.list.proofs.Answers.{listing}
+use Rattle.list.specs.Slots.{listAt}
+use Rattle.list.specs.Operators.{meets}
+use borrow.Author.Needs.{needs}
+use Rattle.list.proofs.meets.Statement.{statement}
+use Rattle.list.proofs.meets.Tie as tie
+use Rattle.list.proofs.meets.Reads as reads
+use Rattle.list.proofs.meets.Lts as lts
+use Rattle.list.proofs.each_pair.Reads as each-pair-reads
+
+each-pair-requires : tie.Need-each-pair-requires
+each-pair-requires c κs = search needs
+
+enum-known-count : tie.Need-enum-known-count
+enum-known-count c = search needs
+
+enum-told : tie.Need-enum-told
+enum-told c = search needs
+
+same-length : tie.Need-same-length
+same-length c = search needs
+
+returns : tie.Need-returns
+unfolding meets listAt
+returns c = (rw (c .enum-told .given .1) at (c .before .before .before .each-pair .ensures .0), c .before .before .before .each-pair .ensures .1)
+
+same-length-2 : tie.Need-same-length-2
+same-length-2 c = search needs
+
+returns-2 : tie.Need-returns-2
+unfolding meets listAt
+returns-2 c = (listing (rw (c .before .count .given .1) at (c .before .before .before .before .each-pair .ensures .0)), c .before .before .before .before .each-pair .ensures .1)
+
+pub meets-spec : {M : Type 1} → statement M
+meets-spec =
+    tie.close
+    (tie.spec
+    each-pair-requires
+    enum-known-count
+    enum-told
+    same-length
+    returns
+    same-length-2
+    returns-2)

@@ -1,0 +1,134 @@
+use Rattle.list.proofs.Answers.{copy-kept, copy-order, kept-one, both-trans, brought, ending-room, ending-apart, star-no-room, star-closed}
+use Rattle.list.proofs.Slots.{list-there, listAt-copied}
+use Rattle.list.specs.Slots.{listAt, Sound, KeptBoth}
+use Rattle.list.specs.Star.{Rounds, finished, burst, over-round}
+use Rattle.zone.proofs.Laws.{ranged, ranged-more, proper-diagonal}
+use Rattle.zone.specs.Zone.{diagonal}
+use Rattle.zone.specs.declared.Zone.{Zone}
+use mathlib.Core.List.{List}
+use native.Mathlib.Omega.{arith}
+use mathlib.Core.Logic.{_⊎_, inl, inr, ⊎-map}
+use mathlib.Core.Path.{_≡_, sym, subst, _∙_}
+use borrow.Author.Needs.{needs}
+use Rattle.list.proofs.star.Statement.{statement}
+use Rattle.list.proofs.star.Tie as tie
+use Rattle.list.proofs.star.Reads as reads
+use Rattle.list.proofs.star.Lts as lts
+use Rattle.list.proofs.all_rounds.Reads as all-rounds-reads
+use Rattle.list.proofs.bring.Reads as bring-reads
+use Rattle.list.proofs.copy_words.Reads as copy-words-reads
+use Rattle.list.proofs.grow.Reads as grow-reads
+use Rattle.zone.proofs.Zone.diagonal.Reads as diagonal-reads
+
+mul-copy-words : tie.Need-mul-copy-words
+mul-copy-words c = search needs
+
+copy-words-requires : tie.Need-copy-words-requires
+copy-words-requires c κs = (omega arith, omega arith, copy-order (c .before .pre .4) (c .before .pre .0))
+
+all-rounds-requires : tie.Need-all-rounds-requires
+all-rounds-requires c κs =
+    let f = copy-kept (c .before .before .before .before .pre .0) (c .before .before .copy-words .ensures) in
+    let same = list-there (c .before .before .before .before .args .inner) (c .before .before .before .before .args .m) f (c .before .before .before .before .pre .4) (c .before .before .before .before .pre .0) in (
+      c .before .before .before .before .pre .0,
+      omega (arith, f .same-length),
+      omega (arith, f .same-length),
+      omega (arith, f .same-length),
+      c .before .before .before .before .pre .4,
+      c .before .before .before .before .pre .5,
+      c .before .before .before .before .pre .6,
+      subst Sound (sym same) (c .before .before .before .before .pre .7),
+      listAt-copied (c .before .before .before .before .args .m) (c .before .before .copy-words .ensures) ∙ sym same,
+    )
+
+enum-known-at : tie.Need-enum-known-at
+enum-known-at c = search needs
+
+enum-told : tie.Need-enum-told
+enum-told c = search needs
+
+same-length : tie.Need-same-length
+same-length c = search needs
+
+returns : tie.Need-returns
+returns c =
+    let f = copy-kept (c .before .before .before .before .before .before .before .before .pre .0) (c .before .before .before .before .before .before .copy-words .ensures) in
+    let same = list-there (c .before .before .before .before .before .before .before .before .args .inner) (c .before .before .before .before .before .before .before .before .args .m) f (c .before .before .before .before .before .before .before .before .pre .4) (c .before .before .before .before .before .before .before .before .pre .0) in
+    (over-round (subst (λ (I : List Zone). Rounds I I burst) same (rw (c .enum-told .given .1) at (c .before .before .before .all-rounds .ensures .0))), both-trans (kept-one f) (c .before .before .before .all-rounds .ensures .1))
+
+bring-requires : tie.Need-bring-requires
+bring-requires c κs =
+    let f = copy-kept (c .before .before .before .before .before .before .before .before .before .before .pre .0) (c .before .before .before .before .before .before .before .before .copy-words .ensures) in
+    let same = list-there (c .before .before .before .before .before .before .before .before .before .before .args .inner) (c .before .before .before .before .before .before .before .before .before .before .args .m) f (c .before .before .before .before .before .before .before .before .before .before .pre .4) (c .before .before .before .before .before .before .before .before .before .before .pre .0) in
+    let w = rw (c .before .before .at .given .1) at (c .before .before .before .before .before .all-rounds .ensures .0) in (
+      w .holds .few,
+      ending-room (w .place) (omega (arith, f .same-length, c .before .before .before .before .before .all-rounds .ensures .1 .same-length)) (omega (arith, f .same-length, c .before .before .before .before .before .all-rounds .ensures .1 .same-length)),
+      omega (arith, f .same-length, c .before .before .before .before .before .all-rounds .ensures .1 .same-length),
+      ending-apart (w .place) (c .before .before .before .before .before .before .before .before .before .before .pre .6),
+    )
+
+diagonal-requires : tie.Need-diagonal-requires
+diagonal-requires c κs = (omega arith, omega arith)
+
+grow-requires : tie.Need-grow-requires
+grow-requires c κs =
+    let f = copy-kept (c .before .before .before .before .before .before .before .before .before .before .before .before .before .before .pre .0) (c .before .before .before .before .before .before .before .before .before .before .before .before .copy-words .ensures) in
+    let same = list-there (c .before .before .before .before .before .before .before .before .before .before .before .before .before .before .args .inner) (c .before .before .before .before .before .before .before .before .before .before .before .before .before .before .args .m) f (c .before .before .before .before .before .before .before .before .before .before .before .before .before .before .pre .4) (c .before .before .before .before .before .before .before .before .before .before .before .before .before .before .pre .0) in
+    let w = rw (c .before .before .before .before .before .before .at .given .1) at (c .before .before .before .before .before .before .before .before .before .all-rounds .ensures .0) in (
+      w .holds .few,
+      omega (arith, f .same-length, c .before .before .before .before .before .before .before .before .before .all-rounds .ensures .1 .same-length, c .before .before .before .bring .ensures .1 .same-length),
+      rw (c .diagonal .ensures) (ranged-more (c .before .before .before .before .before .before .before .before .before .before .before .before .before .before .pre .9) (ranged (proper-diagonal _ _ (c .before .before .before .before .before .before .before .before .before .before .before .before .before .before .pre .8)))),
+    )
+
+enum-known-count : tie.Need-enum-known-count
+enum-known-count c = search needs
+
+enum-told-2 : tie.Need-enum-told-2
+enum-told-2 c = search needs
+
+same-length-2 : tie.Need-same-length-2
+same-length-2 c = search needs
+
+returns-2 : tie.Need-returns-2
+returns-2 c =
+    let f = copy-kept (c .before .before .before .before .before .before .before .before .before .before .before .before .before .before .before .before .before .before .pre .0) (c .before .before .before .before .before .before .before .before .before .before .before .before .before .before .before .before .copy-words .ensures) in
+    let same = list-there (c .before .before .before .before .before .before .before .before .before .before .before .before .before .before .before .before .before .before .args .inner) (c .before .before .before .before .before .before .before .before .before .before .before .before .before .before .before .before .before .before .args .m) f (c .before .before .before .before .before .before .before .before .before .before .before .before .before .before .before .before .before .before .pre .4) (c .before .before .before .before .before .before .before .before .before .before .before .before .before .before .before .before .before .before .pre .0) in
+    let w = rw (c .before .before .before .before .before .before .before .before .before .before .at .given .1) at (c .before .before .before .before .before .before .before .before .before .before .before .before .before .all-rounds .ensures .0) in
+    let r = subst (λ (I : List Zone). Rounds I I (finished (c .before .before .before .before .before .before .before .before .before .before .at .given .0 .1 .1 .0) (w .list))) same (w .value) in
+    let h = brought (w .holds) (c .before .before .before .before .before .before .before .bring .ensures .0) in
+    let k = both-trans (kept-one f) (both-trans (c .before .before .before .before .before .before .before .before .before .before .before .before .before .all-rounds .ensures .1) (both-trans (kept-one (c .before .before .before .before .before .before .before .bring .ensures .1)) (kept-one (c .before .before .before .grow .ensures .1)))) in
+    (star-no-room (diagonal (c .before .before .before .before .before .before .before .before .before .before .before .before .before .before .before .before .before .before .args .from) (c .before .before .before .before .before .before .before .before .before .before .before .before .before .before .before .before .before .before .args .to)) r _ _ _ h (rw (c .before .before .before .before .diagonal .ensures, c .enum-told2 .given .1) at (c .before .before .before .grow .ensures .0)), k)
+
+same-length-3 : tie.Need-same-length-3
+same-length-3 c = search needs
+
+returns-3 : tie.Need-returns-3
+returns-3 c =
+    let f = copy-kept (c .before .before .before .before .before .before .before .before .before .before .before .before .before .before .before .before .before .before .before .pre .0) (c .before .before .before .before .before .before .before .before .before .before .before .before .before .before .before .before .before .copy-words .ensures) in
+    let same = list-there (c .before .before .before .before .before .before .before .before .before .before .before .before .before .before .before .before .before .before .before .args .inner) (c .before .before .before .before .before .before .before .before .before .before .before .before .before .before .before .before .before .before .before .args .m) f (c .before .before .before .before .before .before .before .before .before .before .before .before .before .before .before .before .before .before .before .pre .4) (c .before .before .before .before .before .before .before .before .before .before .before .before .before .before .before .before .before .before .before .pre .0) in
+    let w = rw (c .before .before .before .before .before .before .before .before .before .before .before .at .given .1) at (c .before .before .before .before .before .before .before .before .before .before .before .before .before .before .all-rounds .ensures .0) in
+    let r = subst (λ (I : List Zone). Rounds I I (finished (c .before .before .before .before .before .before .before .before .before .before .before .at .given .0 .1 .1 .0) (w .list))) same (w .value) in
+    let h = brought (w .holds) (c .before .before .before .before .before .before .before .before .bring .ensures .0) in
+    let k = both-trans (kept-one f) (both-trans (c .before .before .before .before .before .before .before .before .before .before .before .before .before .before .all-rounds .ensures .1) (both-trans (kept-one (c .before .before .before .before .before .before .before .before .bring .ensures .1)) (kept-one (c .before .before .before .before .grow .ensures .1)))) in
+    (star-closed (diagonal (c .before .before .before .before .before .before .before .before .before .before .before .before .before .before .before .before .before .before .before .args .from) (c .before .before .before .before .before .before .before .before .before .before .before .before .before .before .before .before .before .before .before .args .to)) r _ _ _ h (rw (c .before .before .before .before .before .diagonal .ensures, c .before .count .given .1) at (c .before .before .before .before .grow .ensures .0)), k)
+
+pub star-spec : {M : Type 1} → statement M
+star-spec =
+    tie.close
+    (tie.spec
+    mul-copy-words
+    copy-words-requires
+    all-rounds-requires
+    enum-known-at
+    enum-told
+    same-length
+    returns
+    bring-requires
+    diagonal-requires
+    grow-requires
+    enum-known-count
+    enum-told-2
+    same-length-2
+    returns-2
+    same-length-3
+    returns-3)

@@ -1,0 +1,68 @@
+-- What the private functions answer.
+use mathlib.Core.Path.{_≡_}
+use mathlib.Core.Bool.{Bool, true, false}
+use mathlib.Core.Logic.{_⊎_}
+use mathlib.Core.List.{List}
+use Prim.Native.Nat.{ℕ, _+_, _*_, _≤_, _<_}
+use lib.IntN.{ℤ}
+use Rattle.zone.specs.declared.Zone.{Zone}
+use Rattle.zone.specs.Words.{word}
+use Rattle.list.specs.Insert.{Built, listed, overfull}
+use Rattle.list.specs.Star.{Outcome, finished, burst, Rounds, round}
+use Rattle.list.specs.Pieces.{Covered}
+use Rattle.list.specs.Slots.{Holds, Kept}
+use Rattle.list.specs.declared.Grown.{Grown}
+use Rattle.list.specs.declared.Grown.the-variants.{Grew, TooMany}
+use Rattle.list.specs.declared.Round.{Round}
+use Rattle.list.specs.declared.Round.the-variants.{Same, Changed, Exceeded}
+use Rattle.list.specs.declared.Ended.{Ended}
+use Rattle.list.specs.declared.Ended.the-variants.{EndedAt, EndedOver}
+
+-- n words copied from `from` to `to`, all others as they were
+pub record Copied (from to n : ℕ) (ws vs : List ℤ) : Type 0 where
+  pub moved : (k : ℕ) → k < n → word vs (to + k) ≡ word ws (from + k)
+  pub kept : Kept to n ws vs
+
+-- a zone that lies inside the new one is left out; any other is copied from `from` behind the zones kept so far
+abbrev pub KeepsAs : Bool → ℕ → ℕ → ℕ → List ℤ → List ℤ → ℕ → Type 0
+KeepsAs true from base kept ws vs r = (r ≡ kept) × (vs ≡ ws)
+KeepsAs false from base kept ws vs r = (r ≡ kept + 1) × Copied from (base + kept * 6) 6 ws vs
+
+-- whether puts changed the list S into M: a mark in the place of a comparison. A zone that was placed stays covered, and was not before
+abbrev pub Mark : Bool → List Zone → List Zone → Type 0
+Mark false S M = M ≡ S
+Mark true S M = (x : Zone) × Covered x M × ¬ Covered x S
+
+-- the list L, grown by puts that come to `built`; a mark that said whether some list S has changed into L now says it of the new list
+pub record Growth (built : Built) (before : Bool) (L : List Zone) (vs : List ℤ) (target n : ℕ) (changed : Bool) : Type 0 where
+  pub list : List Zone
+  pub value : built ≡ listed list
+  pub holds : Holds vs target n list
+  pub marks : (S : List Zone) → Mark before S L → Mark changed S list
+
+abbrev pub GrowsAs : Built → Bool → List Zone → List ℤ → ℕ → Grown → Type 0
+GrowsAs built before L vs target (Grew n changed) = Growth built before L vs target n changed
+GrowsAs built before L vs target TooMany = built ≡ overfull
+
+-- one round from the list L, into the slot at `copy`
+pub record Changes (inner L : List Zone) (vs : List ℤ) (copy n : ℕ) : Type 0 where
+  pub list : List Zone
+  pub value : round inner L ≡ listed list
+  pub new : ¬ (list ≡ L)
+  pub holds : Holds vs copy n list
+
+abbrev pub RoundAs : List Zone → List Zone → List ℤ → ℕ → Round → Type 0
+RoundAs inner L vs copy Same = round inner L ≡ listed L
+RoundAs inner L vs copy (Changed n) = Changes inner L vs copy n
+RoundAs inner L vs copy Exceeded = round inner L ≡ overfull
+
+-- all rounds: the last list stands at `at`, one of the two slots
+pub record Ending (inner : List Zone) (a b : ℕ) (vs : List ℤ) (at n rounds : ℕ) : Type 0 where
+  pub list : List Zone
+  pub value : Rounds inner inner (finished rounds list)
+  pub holds : Holds vs at n list
+  pub place : (at ≡ a) ⊎ (at ≡ b)
+
+abbrev pub EndsAs : List Zone → ℕ → ℕ → List ℤ → Ended → Type 0
+EndsAs inner a b vs (EndedAt at n rounds) = Ending inner a b vs at n rounds
+EndsAs inner a b vs EndedOver = Rounds inner inner burst

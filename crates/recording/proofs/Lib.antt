@@ -1,0 +1,8 @@
+-- Laws of recordings. `Scan` serves the proofs of this crate alone; the others are for those who use it.
+pub mod Rounding
+pub mod Refusals
+pub mod Levels
+pub mod Runs
+mod Scan
+pub mod Handed
+pub mod Examples

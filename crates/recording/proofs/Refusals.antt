@@ -1,0 +1,201 @@
+-- What reading answers, in the words of the table of refusals: each number is given exactly when its cause holds and no earlier one does.
+use mathlib.Core.Path.{_≡_, refl, sym, ap, subst, _∙_}
+use mathlib.Core.Bool.{Bool, true, false, cond, not, _&&_, _||_}
+use mathlib.Core.List.{List}
+use mathlib.Core.Logic.{_↔_}
+use Prim.Native.Nat.{ℕ, zero, suc, _+_, _-_, _*_, _%_, _^_, _/_, _≤_, _<_}
+use native.Mathlib.Decide.{ℕ-discrete}
+use native.Mathlib.Numerals.{add-one}
+use native.Mathlib.Omega.{arith}
+use borrow.Author.Tests.{ltb-true, lt-ltb, leb-true, leb-false, le-leb, eqb-true, eq-eqb, not-true, not-false}
+use lib.Dec.{leb, ltb, eqb}
+use lib.ListN.{length}
+use Rattle.recording.specs.Reading.{Sized, Headed, Changed, AllChanged, ReadAs, sized, headed, changed, allChanged, reading, number, numbers, marked, headMark, changeMark, duration, channels, changes, time, levels, byteAt, ticks}
+use Rattle.recording.specs.declared.Recording.{Recording}
+use Rattle.recording.specs.declared.Reading.{Reading}
+use Rattle.recording.specs.declared.Reading.the-variants.{WrongLength, WrongHead, WrongChange, Recorded}
+use Rattle.recording.proofs.Rounding.{tick-range}
+
+-- a flag of the code, negated, and the test that it is
+pub passed : {a b : Bool} → a ≡ b → not a ≡ false → b ≡ true
+passed {a} e h = sym e ∙ not-false a h
+
+pub failed : {a b : Bool} → a ≡ b → not a ≡ true → b ≡ false
+failed {a} e h = sym e ∙ not-true a h
+
+-- THE TESTS SAY WHAT THE CAUSES SAY
+
+abbrev Tests : Bool → Type 0 → Type 0
+Tests b A = (b ≡ true) ↔ A
+
+le-is : (m n : ℕ) → Tests (leb m n) (m ≤ n)
+le-is m n = (leb-true m n, le-leb m n)
+
+lt-is : (m n : ℕ) → Tests (ltb m n) (m < n)
+lt-is m n = (ltb-true m n, lt-ltb m n)
+
+eq-is : (m n : ℕ) → Tests (eqb m n) (m ≡ n)
+eq-is m n = (eqb-true m n, eq-eqb m n)
+
+both : {a b : Bool} {A B : Type 0} → Tests a A → Tests b B → Tests (a && b) (A × B)
+both {a = true} p q = (λ e. (p .0 refl, q .0 e), λ h. q .1 (h .1))
+both {a = false} p q = (λ e. absurd (impossible e), λ h. p .1 (h .0))
+  where
+    impossible : false ≡ true → ⊥
+    impossible e = let z : _≡_ {A = ℕ} 0 1 = cc in omega arith
+
+-- after the first change
+above-is : (j m n : ℕ) → Tests (leb j 1 || ltb m n) (1 < j → m < n)
+above-is j m n = go (leb j 1) refl
+  where
+    go : (t : Bool) → leb j 1 ≡ t → Tests (t || ltb m n) (1 < j → m < n)
+    go true e = (λ _ h. let k = leb-true j 1 e in omega arith, λ _. refl)
+    go false e = (λ q _. ltb-true m n q, λ h. lt-ltb m n (h (leb-false j 1 e)))
+
+pub sized-is : (largest : ℕ) (bytes : List ℕ) → Tests (sized largest bytes) (Sized largest bytes)
+unfolding sized
+sized-is largest bytes =
+    let t = both (lt-is 0 (length bytes)) (both (le-is (length bytes) largest) (eq-is (length bytes % 8) 0)) in (
+      λ e. let h = t .0 e in record { some = h .0; within = h .1 .0; whole = h .1 .1 },
+      λ s. t .1 (s .some, (s .within, s .whole)),
+    )
+
+mark-is : (b : Bool) → Tests b (b ≡ true)
+mark-is b = (λ e. e, λ e. e)
+
+pub headed-is : (bytes : List ℕ) → Tests (headed bytes) (Headed bytes)
+unfolding headed
+headed-is bytes =
+    let t = both (mark-is (marked bytes 0 headMark))
+    (both (both (le-is 10 (duration bytes)) (le-is (duration bytes) 10000000))
+    (both (both (le-is 1 (channels bytes)) (le-is (channels bytes) 16)) (eq-is (byteAt bytes 7) 0))) in (
+      λ e. let h = t .0 e in record { mark = h .0; long = h .1 .0 .0; short = h .1 .0 .1; one = h .1 .1 .0 .0; few = h .1 .1 .0 .1; blank = h .1 .1 .1 },
+      λ s. t .1 (s .mark, ((s .long, s .short), ((s .one, s .few), s .blank))),
+    )
+
+changed-is : (bytes : List ℕ) (j : ℕ) → Tests (changed bytes j) (Changed bytes j)
+unfolding changed
+changed-is bytes j =
+    let t = both (mark-is (marked bytes j changeMark)) (both (lt-is (time bytes j) (duration bytes))
+    (both (above-is j (time bytes (j - 1)) (time bytes j)) (eq-is (levels bytes j / 2 ^ channels bytes) 0))) in (
+      λ e. let h = t .0 e in record { mark = h .0; below = h .1 .0; above = h .1 .1 .0; quiet = h .1 .1 .1 },
+      λ s. t .1 (s .mark, (s .below, (s .above, s .quiet))),
+    )
+
+all-is : (bytes : List ℕ) (n : ℕ) → Tests (allChanged bytes n) ((j : ℕ) → 0 < j → j ≤ n → Changed bytes j)
+unfolding allChanged
+all-is bytes zero = (λ _ j h k. absurd (none j h k), λ _. refl)
+  where
+    none : (j : ℕ) → 0 < j → j ≤ 0 → ⊥
+    none j h k = omega arith
+all-is bytes (suc n) =
+    let t = both (all-is bytes n) (changed-is bytes (suc n)) in
+    (λ e. let h = t .0 e in last (h .0) (h .1), λ h. t .1 (λ j a b. h j a (omega arith), h (suc n) (omega arith) (omega arith)))
+  where
+    last : ((j : ℕ) → 0 < j → j ≤ n → Changed bytes j) → Changed bytes (suc n) → (j : ℕ) → 0 < j → j ≤ suc n → Changed bytes j
+    last h l j a b = elim (ℕ-discrete j (suc n)) [ yes e ↦ rw e l | no ne ↦ h j a (omega arith) ]
+
+off : {b : Bool} {A : Type 0} → Tests b A → (A → ⊥) → b ≡ false
+off {b = true} t n = absurd (n (t .0 refl))
+off {b = false} t n = refl
+
+-- a wrong change among the first n, and one right change more
+pub one-wrong : (bytes : List ℕ) (n j : ℕ) → j < n → changed bytes (j + 1) ≡ false → allChanged bytes n ≡ false
+one-wrong bytes n j h e = off (all-is bytes n) (λ a. wrong (changed-is bytes (j + 1) .1 (a (j + 1) (omega arith) (omega arith))))
+  where
+    wrong : changed bytes (j + 1) ≡ true → ⊥
+    wrong q = let z : _≡_ {A = ℕ} 0 1 = cc in omega arith
+
+pub one-more : (bytes : List ℕ) (j : ℕ) → allChanged bytes j ≡ true → changed bytes (j + 1) ≡ true → allChanged bytes (j + 1) ≡ true
+unfolding allChanged
+one-more bytes j a e = rw add-one (rw (a, ← add-one) e)
+
+-- THE ANSWERS
+
+-- when an answer is due: its cause holds, and no earlier one; or none holds, and the numbers are those of the bytes
+abbrev pub Due : ℕ → List ℕ → Reading → Type 0
+Due largest bytes WrongLength = Sized largest bytes → ⊥
+Due largest bytes WrongHead = Sized largest bytes × (Headed bytes → ⊥)
+Due largest bytes WrongChange = Sized largest bytes × Headed bytes × (AllChanged bytes → ⊥)
+Due largest bytes (Recorded r) = Sized largest bytes × Headed bytes × AllChanged bytes × (r ≡ numbers bytes)
+
+module _ (largest : ℕ) (bytes : List ℕ) where
+  due : Due largest bytes (reading largest bytes)
+  unfolding reading
+  due = go (sized largest bytes) (sized-is largest bytes) (headed bytes) (headed-is bytes)
+      (allChanged bytes (changes bytes)) (all-is bytes (changes bytes))
+    where
+      no-way : {b : Bool} {A : Type 0} → b ≡ false → Tests b A → A → ⊥
+      no-way p t h = let q = t .1 h in let z : _≡_ {A = ℕ} 0 1 = cc in omega arith
+
+      go : (s : Bool) → Tests s (Sized largest bytes) → (h : Bool) → Tests h (Headed bytes) → (a : Bool) → Tests a (AllChanged bytes)
+          → Due largest bytes (cond s (cond h (cond a (Recorded (numbers bytes)) WrongChange) WrongHead) WrongLength)
+      go true s true h true a = (s .0 refl, h .0 refl, a .0 refl, refl)
+      go true s true h false a = (s .0 refl, h .0 refl, no-way refl a)
+      go true s false h a _ = (s .0 refl, no-way refl h)
+      go false s h _ a _ = no-way refl s
+
+  answer : (o : Reading) → Due largest bytes o → reading largest bytes ≡ o
+  unfolding reading
+  answer WrongLength n = rw (off (sized-is largest bytes) n)
+  answer WrongHead d = rw (sized-is largest bytes .1 (d .0), off (headed-is bytes) (d .1))
+  answer WrongChange d =
+      rw (sized-is largest bytes .1 (d .0), headed-is bytes .1 (d .1), off (all-is bytes (changes bytes)) (d .2))
+  answer (Recorded r) d =
+      rw (sized-is largest bytes .1 (d .0), headed-is bytes .1 (d .1), all-is bytes (changes bytes) .1 (d .2), d .3)
+
+  -- each answer, and so each refusal's number, is given exactly when it is due
+  pub exactly : (o : Reading) → (reading largest bytes ≡ o) ↔ Due largest bytes o
+  exactly o = (λ e. subst (Due largest bytes) e due, answer o)
+
+same-number : (a b : Reading) → 0 < number b → number a ≡ number b → a ≡ b
+same-number WrongLength WrongLength h e = refl
+same-number WrongHead WrongHead h e = refl
+same-number WrongChange WrongChange h e = refl
+same-number WrongLength WrongHead h e = absurd (omega arith)
+same-number WrongLength WrongChange h e = absurd (omega arith)
+same-number WrongHead WrongLength h e = absurd (omega arith)
+same-number WrongHead WrongChange h e = absurd (omega arith)
+same-number WrongChange WrongLength h e = absurd (omega arith)
+same-number WrongChange WrongHead h e = absurd (omega arith)
+same-number (Recorded r) WrongLength h e = absurd (omega arith)
+same-number (Recorded r) WrongHead h e = absurd (omega arith)
+same-number (Recorded r) WrongChange h e = absurd (omega arith)
+same-number a (Recorded r) h e = absurd (omega arith)
+
+-- a refusal's number is given exactly when its cause holds and no earlier one does
+pub refused : (largest : ℕ) (bytes : List ℕ) (o : Reading) → 0 < number o → (number (reading largest bytes) ≡ number o) ↔ Due largest bytes o
+refused largest bytes o h =
+    (λ e. exactly largest bytes o .0 (same-number (reading largest bytes) o h e), λ d. ap number (exactly largest bytes o .1 d))
+
+-- what is known of bytes that were read as a recording
+module _ {bytes : List ℕ} {r : Recording} (read : ReadAs bytes r) where
+  read-due : Due (read .largest) bytes (Recorded r)
+  read-due = exactly (read .largest) bytes (Recorded r) .0 (read .read)
+
+  -- its head and its changes are right, and the numbers are those of the bytes
+  pub read-headed : Headed bytes
+  read-headed = read-due .1
+
+  pub read-changed : AllChanged bytes
+  read-changed = read-due .2
+
+  pub read-numbers : r ≡ numbers bytes
+  read-numbers = read-due .3
+
+  pub read-count : r .changes ≡ changes bytes
+  read-count = ap (λ (q : Recording). q .changes) read-numbers
+
+  pub read-end : r .ticks ≡ ticks bytes
+  read-end = ap (λ (q : Recording). q .ticks) read-numbers
+
+  -- change j lies within the bytes, and its time is small
+  pub read-room : (j : ℕ) → j ≤ changes bytes → 8 * j + 8 ≤ length bytes
+  read-room j h = let s = read-due .0 in omega (arith, s .some, s .whole)
+
+  pub read-time : (j : ℕ) → 0 < j → j ≤ changes bytes → time bytes j ≤ 10000000
+  read-time j a b = omega (arith, read-changed j a b .below, read-headed .short)
+
+  -- a recording has 1 to 1,000,000 ticks
+  pub read-ticks : (1 ≤ r .ticks) × (r .ticks ≤ 1000000)
+  read-ticks = rw read-numbers (tick-range (read-headed .long) (read-headed .short))

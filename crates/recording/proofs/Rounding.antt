@@ -1,0 +1,14 @@
+-- All that is used of the rounding of a time to a tick.
+use Prim.Native.Nat.{ℕ, _≤_}
+use native.Mathlib.Omega.{arith}
+use Rattle.recording.specs.Reading.{tick}
+
+-- a later time is no earlier tick
+pub tick-mono : {m n : ℕ} → m ≤ n → tick m ≤ tick n
+unfolding tick
+tick-mono h = omega arith
+
+-- a valid duration has 1 to 1,000,000 ticks
+pub tick-range : {m : ℕ} → 10 ≤ m → m ≤ 10000000 → (1 ≤ tick m) × (tick m ≤ 1000000)
+unfolding tick
+tick-range h k = (omega arith, omega arith)

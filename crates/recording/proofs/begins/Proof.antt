@@ -1,0 +1,36 @@
+-- The three cases of where a change begins.
+use mathlib.Core.Path.{ap, sym, _∙_}
+use native.Mathlib.Omega.{arith}
+use borrow.Author.Tests.{eq-eqb}
+use Rattle.recording.specs.Scan.{begins}
+use Rattle.recording.specs.declared.Recording.{Recording}
+use Rattle.recording.proofs.Refusals.{read-numbers, read-count, read-room, read-time}
+use Rattle.recording.proofs.Levels.{begins-change, begins-end}
+use Rattle.recording.proofs.begins.Statement.{statement}
+use Rattle.recording.proofs.begins.Tie as tie
+
+returns : tie.Need-returns
+unfolding begins
+returns c = rw (eq-eqb (c .before .before .args .j) 0 (c .if1 .taken))
+
+returns-2 : tie.Need-returns-2
+returns-2 c = ap (λ (r : Recording). r .ticks) (read-numbers (c .before .before .before .before .pre)) ∙ sym (begins-end (c .before .before .before .before .args .bytes .now) (c .before .before .before .before .args .j) (omega (arith, read-count (c .before .before .before .before .pre))))
+
+mul-le32 : tie.Need-mul-le32
+mul-le32 c = omega (arith, read-room (c .before .before .before .before .pre) (c .before .before .before .before .args .j) (omega (arith, read-count (c .before .before .before .before .pre))))
+
+add-le32 : tie.Need-add-le32
+add-le32 c = omega (arith, read-room (c .before .before .before .before .pre) (c .before .before .before .before .args .j) (omega (arith, read-count (c .before .before .before .before .pre))))
+
+le32-requires : tie.Need-le32-requires
+le32-requires c κs = omega (arith, read-room (c .before .before .before .before .pre) (c .before .before .before .before .args .j) (omega (arith, read-count (c .before .before .before .before .pre))))
+
+tick-requires : tie.Need-tick-requires
+tick-requires c κs = rw (c .le32 .ensures) (read-time (c .before .before .before .before .before .pre) (c .before .before .before .before .before .args .j) (omega arith) (omega (arith, read-count (c .before .before .before .before .before .pre))))
+
+returns-3 : tie.Need-returns-3
+returns-3 c = c .tick .ensures ∙ rw (c .before .le32 .ensures) (sym (begins-change (c .before .before .before .before .before .before .args .bytes .now) (c .before .before .before .before .before .before .args .j) (omega arith) (omega (arith, read-count (c .before .before .before .before .before .before .pre)))))
+
+pub begins-spec : {M : Type 1} → statement M
+begins-spec =
+    tie.close (tie.spec returns returns-2 mul-le32 add-le32 le32-requires tick-requires returns-3)

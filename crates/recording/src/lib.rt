@@ -1,0 +1,343 @@
+// Switch recordings: reading one from its bytes, and the runs of ticks in which a channel has a level.
+// Nothing is assumed of the bytes that are read.
+
+ghost use mathlib.Core.Path.{_≡_};
+ghost use mathlib.Core.Bool.{_&&_, _||_};
+ghost use Prim.Native.Nat.{_+_, _-_, _*_, _≤_, _<_, min, max};
+ghost use lib.Dec.{leb, ltb};
+ghost use lib.ListN.{length};
+ghost use Rattle.recording.specs.Reading.{tick as tickOf, le16 as le16At, le32 as le32At, marked as markedBy, duration as durationOf, channels as channelsOf, time as timeOf, sized as sizedBy, headed as headedBy, changed as changedBy, allChanged, reading, ticks as ticksOf, ReadAs};
+ghost use Rattle.recording.specs.Levels.{levelIn};
+ghost use Rattle.recording.specs.Scan.{sameLevel, leaves as leavesAt, begins as beginsAt, NextRun, Sought};
+
+// A level of a channel.
+pub enum Level {
+    High,
+    Low,
+}
+
+// The numbers of a recording: its length in ticks, its channels, and its changes, which are the records 1 to `changes`.
+pub struct Recording {
+    pub ticks: u32,
+    pub channels: u8,
+    pub changes: usize,
+}
+
+// What reading answers.
+pub enum Reading {
+    WrongLength,
+    WrongHead,
+    WrongChange,
+    Recorded(Recording),
+}
+
+// A run of ticks, from `start` to before `end`.
+pub struct Run {
+    pub start: u32,
+    pub end: u32,
+}
+
+// A place among the changes. Change 0 is the time before the first one.
+pub struct Cursor {
+    pub change: usize,
+}
+
+// The next run, and the cursor behind it.
+pub enum Next {
+    Found(Run, Cursor),
+    None,
+}
+
+// The two-byte marks of the records.
+const HEAD: [u8; 2] = [0x44, 0x52];
+
+const CHANGE: [u8; 2] = [0x43, 0x48];
+
+fn wide(x: u8) -> u32
+    ensures { λ r. ⌜ (r ≡ x) × (r < 256) ⌝ }
+{
+    x as u32
+}
+
+// The 2 bytes at a place, low byte first.
+fn le16(bytes: &[u8], at: usize) -> u32
+    requires { ⌜ at + 1 < length (now bytes) ⌝ }
+    ensures { λ r. ⌜ (r ≡ le16At (now (bytes .entry)) at) × (r < 65536) ⌝ }
+{
+    wide(bytes[at]) + 256 * wide(bytes[at + 1])
+}
+
+// The 4 bytes at a place, low byte first.
+fn le32(bytes: &[u8], at: usize) -> u32
+    requires { ⌜ at + 3 < length (now bytes) ⌝ }
+    ensures { λ r. ⌜ r ≡ le32At (now (bytes .entry)) at ⌝ }
+{
+    le16(bytes, at) + 65536 * le16(bytes, at + 2)
+}
+
+// The tick of a time in milliseconds.
+fn tick(m: u32) -> u32
+    requires { ⌜ m ≤ 10000000 ⌝ }
+    ensures { λ r. ⌜ r ≡ tickOf m ⌝ }
+{
+    (m + 5) / 10
+}
+
+// Record j starts with the mark.
+fn marked(bytes: &[u8], j: usize, mark: [u8; 2]) -> bool
+    requires { ⌜ 8 * j + 1 < length (now bytes) ⌝ }
+    ensures { λ r. ⌜ r ≡ markedBy (now (bytes .entry)) j mark ⌝ }
+{
+    let at = 8 * j;
+    if bytes[at] != mark[0] {
+        return false;
+    }
+    bytes[at + 1] == mark[1]
+}
+
+fn between(x: u32, low: u32, high: u32) -> bool
+    ensures { λ r. ⌜ r ≡ (leb low x && leb x high) ⌝ }
+{
+    low <= x && x <= high
+}
+
+// Nothing is wrong with the length.
+fn sized(bytes: &[u8], largest: usize) -> bool
+    ensures { λ r. ⌜ r ≡ sizedBy largest (now (bytes .entry)) ⌝ }
+{
+    if bytes.len() == 0 {
+        return false;
+    }
+    if largest < bytes.len() {
+        return false;
+    }
+    bytes.len() % 8 == 0
+}
+
+// Nothing is wrong with the head.
+fn headed(bytes: &[u8]) -> bool
+    requires { ⌜ 8 ≤ length (now bytes) ⌝ }
+    ensures { λ r. ⌜ r ≡ headedBy (now (bytes .entry)) ⌝ }
+{
+    if !marked(bytes, 0, HEAD) {
+        return false;
+    }
+    if !between(le32(bytes, 2), 10, 10_000_000) {
+        return false;
+    }
+    if !between(wide(bytes[6]), 1, 16) {
+        return false;
+    }
+    bytes[7] == 0
+}
+
+// The first change may come at any time, a later one only after the change before it.
+fn rises(bytes: &[u8], j: usize, time: u32) -> bool
+    requires { ⌜ (8 * j + 7 < length (now bytes)) × (time ≡ timeOf (now bytes) j) ⌝ }
+    ensures { λ r. ⌜ r ≡ (leb j 1 || ltb (timeOf (now (bytes .entry)) (j - 1)) (timeOf (now (bytes .entry)) j)) ⌝ }
+{
+    if j <= 1 {
+        return true;
+    }
+    le32(bytes, 8 * (j - 1) + 2) < time
+}
+
+// Nothing is wrong with change j.
+fn changed(bytes: &[u8], j: usize, duration: u32, channels: u8) -> bool
+    requires { ⌜ (8 * j + 7 < length (now bytes)) × (duration ≡ durationOf (now bytes)) × (channels ≡ channelsOf (now bytes)) × (channels ≤ 16) ⌝ }
+    ensures { λ r. ⌜ r ≡ changedBy (now (bytes .entry)) j ⌝ }
+{
+    if !marked(bytes, j, CHANGE) {
+        return false;
+    }
+    let time = le32(bytes, 8 * j + 2);
+    if duration <= time {
+        return false;
+    }
+    if !rises(bytes, j, time) {
+        return false;
+    }
+    le16(bytes, 8 * j + 6) >> channels == 0
+}
+
+// Nothing is wrong with the changes 1 to `changes`.
+fn all_changed(bytes: &[u8], changes: usize, duration: u32, channels: u8) -> bool
+    requires { ⌜ (8 * changes + 7 < length (now bytes)) × (duration ≡ durationOf (now bytes)) × (channels ≡ channelsOf (now bytes)) × (channels ≤ 16) ⌝ }
+    ensures { λ r. ⌜ r ≡ allChanged (now (bytes .entry)) changes ⌝ }
+{
+    let mut j = 0;
+    while j < changes {
+        j += 1;
+        if !changed(bytes, j, duration, channels) {
+            return false;
+        }
+    }
+    true
+}
+
+// Reads a recording of at most `largest` bytes. The length is judged first, then the head, then the changes.
+pub fn read(bytes: &[u8], largest: usize) -> Reading
+    ensures { λ r. ⌜ r ≡ reading largest (now (bytes .entry)) ⌝ }
+{
+    if !sized(bytes, largest) {
+        return Reading::WrongLength;
+    }
+    if !headed(bytes) {
+        return Reading::WrongHead;
+    }
+    let changes = bytes.len() / 8 - 1;
+    let duration = le32(bytes, 2);
+    let channels = bytes[6];
+    if !all_changed(bytes, changes, duration, channels) {
+        return Reading::WrongChange;
+    }
+    Reading::Recorded(Recording {
+        ticks: tick(duration),
+        channels,
+        changes,
+    })
+}
+
+// The tick from which change j holds: 0 for j = 0, and the end of the recording after the last change.
+fn begins(bytes: &[u8], recording: Recording, j: usize) -> u32
+    requires { ⌜ ReadAs (now bytes) recording ⌝ }
+    ensures { λ r. ⌜ r ≡ beginsAt (now (bytes .entry)) j ⌝ }
+{
+    if j == 0 {
+        return 0;
+    }
+    if recording.changes < j {
+        return recording.ticks;
+    }
+    tick(le32(bytes, 8 * j + 2))
+}
+
+// The level of a channel in a change's levels; a channel beyond the sixteenth is low.
+fn level_in(word: u32, channel: u8) -> Level
+    requires { ⌜ word < 65536 ⌝ }
+    ensures { λ r. ⌜ r ≡ levelIn word channel ⌝ }
+{
+    if 16 <= channel {
+        return Level::Low;
+    }
+    if (word >> channel) % 2 == 1 {
+        Level::High
+    } else {
+        Level::Low
+    }
+}
+
+fn same(a: Level, b: Level) -> bool
+    ensures { λ r. ⌜ r ≡ sameLevel a b ⌝ }
+{
+    match a {
+        Level::High => match b {
+            Level::High => true,
+            Level::Low => false,
+        },
+        Level::Low => match b {
+            Level::High => false,
+            Level::Low => true,
+        },
+    }
+}
+
+// Change j leaves the channel at the level; before the first change it is low.
+fn leaves(bytes: &[u8], channel: u8, level: Level, j: usize) -> bool
+    requires { ⌜ 8 * j + 7 < length (now bytes) ⌝ }
+    ensures { λ r. ⌜ r ≡ leavesAt (now (bytes .entry)) channel level j ⌝ }
+{
+    if j == 0 {
+        return same(Level::Low, level);
+    }
+    same(level_in(le16(bytes, 8 * j + 6), channel), level)
+}
+
+fn earlier(a: u32, b: u32) -> u32
+    ensures { λ r. ⌜ r ≡ min a b ⌝ }
+{
+    if a < b { a } else { b }
+}
+
+fn later(a: u32, b: u32) -> u32
+    ensures { λ r. ⌜ r ≡ max a b ⌝ }
+{
+    if a < b { b } else { a }
+}
+
+// The first change from j on that gives ticks of from..to the level, or another one where it is not wanted.
+fn seek(
+    bytes: &[u8],
+    recording: Recording,
+    channel: u8,
+    level: Level,
+    from: u32,
+    to: u32,
+    j: usize,
+    wanted: bool,
+) -> usize
+    requires { ⌜ ReadAs (now bytes) recording × (to ≤ ticksOf (now bytes)) ⌝ }
+    ensures { λ r. ⌜ Sought (now (bytes .entry)) channel level from to j wanted r ⌝ }
+{
+    let mut i = j;
+    let mut a = begins(bytes, recording, i);
+    while a < to {
+        let b = begins(bytes, recording, i + 1);
+        if later(from, a) < earlier(to, b) {
+            if leaves(bytes, channel, level, i) == wanted {
+                return i;
+            }
+        }
+        i += 1;
+        a = b;
+    }
+    i
+}
+
+// The next maximal run of a channel at a level within the ticks from..to, from a cursor on. A cursor at change 0 starts at `from`.
+pub fn next_run(
+    bytes: &[u8],
+    recording: Recording,
+    channel: u8,
+    level: Level,
+    from: u32,
+    to: u32,
+    cursor: Cursor,
+) -> Next
+    requires { ⌜ ReadAs (now bytes) recording ⌝ }
+    ensures { λ r. ⌜ NextRun (now (bytes .entry)) channel level from to cursor r ⌝ }
+{
+    let end = earlier(to, recording.ticks);
+    let first = seek(
+        bytes,
+        recording,
+        channel,
+        level,
+        from,
+        end,
+        cursor.change,
+        true,
+    );
+    let a = begins(bytes, recording, first);
+    if end <= a {
+        return Next::None;
+    }
+    let past = seek(
+        bytes,
+        recording,
+        channel,
+        level,
+        from,
+        end,
+        first + 1,
+        false,
+    );
+    let b = begins(bytes, recording, past);
+    Next::Found(
+        Run {
+            start: later(from, a),
+            end: earlier(end, b),
+        },
+        Cursor { change: past },
+    )
+}
