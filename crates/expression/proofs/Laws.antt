@@ -1,0 +1,122 @@
+-- The theorems that upper crates cite. Assumes nothing.
+use mathlib.Core.Path.{_≡_, refl}
+use mathlib.Core.List.{List, _++_, List·Memᴰ, List·Memᴰ·head, List·Memᴰ·tail, Memᴰ·append-left, Memᴰ·append-right}
+use mathlib.Core.Logic.{inl, inr}
+use Prim.Native.Nat.{ℕ, suc, _-_, _<_, _≤_, max}
+use native.Mathlib.Omega.{arith}
+use lib.ListN.{length}
+use Rattle.expression.specs.declared.Range.{Range}
+use Rattle.expression.specs.declared.Upper.{Upper}
+use Rattle.expression.specs.declared.Upper.the-variants.{Endless, UpTo}
+use Rattle.expression.specs.Expression.{Expression, epsilon, high, low, union, intersection, concatenation, star, band, depth, letters, ranges}
+use Rattle.expression.specs.Refusal.{Wrong, wrong-length, wrong-letter, wrong-range, too-deep, Refused, Accepted}
+use Rattle.expression.specs.Stored.{
+  nodeAt,
+  Stored,
+  stored-epsilon,
+  stored-high,
+  stored-low,
+  stored-union,
+  stored-intersection,
+  stored-concatenation,
+  stored-star,
+  stored-band,
+}
+use Rattle.expression.specs.Planted.{Planted, Operands}
+use Rattle.expression.proofs.Complete.{unique}
+
+-- THE ANSWER
+
+-- No text is refused by two numbers.
+pub one-refusal : {text : List ℕ} {channels m n : ℕ} → Refused text channels m → Refused text channels n → m ≡ n
+one-refusal {m = m} {n = n} p q =
+    let a : m < n → ⊥ = λ h. q .first m h (p .holds) in
+    let b : n < m → ⊥ = λ h. p .first n h (q .holds) in
+    omega arith
+
+-- An accepted text is not refused.
+pub accepted-stands : {text : List ℕ} {channels n : ℕ} {e : Expression} → Accepted text channels e → Refused text channels n → ⊥
+accepted-stands p q = p .none _ (q .holds)
+
+-- A text is accepted as one expression.
+pub one-expression : {text : List ℕ} {channels : ℕ} {e f : Expression} → Accepted text channels e → Accepted text channels f → e ≡ f
+one-expression p q = unique (p .form) (q .form)
+
+-- An accepted text has 1 to 255 bytes.
+pub accepted-length : {text : List ℕ} {channels : ℕ} {e : Expression} → Accepted text channels e → (0 < length text) × (length text ≤ 255)
+accepted-length {text} p =
+    let a : length text ≡ 0 → ⊥ = λ h. p .none 4 (wrong-length (inl h)) in
+    let b : 255 < length text → ⊥ = λ h. p .none 4 (wrong-length (inr h)) in
+    (omega arith, omega arith)
+
+-- THE STORED TREE
+
+-- The root of an accepted text is planted, with a depth of 16 left.
+pub root-planted : {text ns : List ℕ} {channels n : ℕ} {e : Expression} → Accepted text channels e → Stored ns n e → Planted ns channels n 16 e
+root-planted {channels = channels} {e = e} p s =
+    let deep : 16 < depth e → ⊥ = λ h. p .none 8 (too-deep (p .form) h) in
+    record {
+      stored = s;
+      shallow = omega arith;
+      known = λ k m. let a : channels ≤ k → ⊥ = λ h. p .none 6 (wrong-letter (p .form) m h) in omega arith;
+      right = λ r m w. p .none 7 (wrong-range (p .form) m w);
+    }
+
+depth-some : (e : Expression) → 0 < depth e
+unfolding depth
+depth-some epsilon = omega arith
+depth-some (high k) = omega arith
+depth-some (low k) = omega arith
+depth-some (union e f) = omega arith
+depth-some (intersection e f) = omega arith
+depth-some (concatenation e f) = omega arith
+depth-some (star e) = omega arith
+depth-some (band r e) = omega arith
+
+-- Where a node is planted, some depth is left.
+pub planted-some : {ns : List ℕ} {channels n d : ℕ} {e : Expression} → Planted ns channels n d e → 0 < d
+planted-some {e = e} p = omega (arith, p .shallow, depth-some e)
+
+-- one operand, and two
+one : {ns : List ℕ} {channels i d : ℕ} (f : Expression) → Stored ns i f → suc (depth f) ≤ d → ((k : ℕ) → List·Memᴰ k (letters f) → k < channels)
+    → ((r : Range) → List·Memᴰ r (ranges f) → Wrong r → ⊥) → Planted ns channels i (d - 1) f
+one f s h k r = record { stored = s; shallow = omega arith; known = k; right = r }
+
+two : {ns : List ℕ} {channels i j d : ℕ} (f g : Expression) → Stored ns i f → Stored ns j g → suc (max (depth f) (depth g)) ≤ d
+    → ((k : ℕ) → List·Memᴰ k (letters f ++ letters g) → k < channels) → ((r : Range) → List·Memᴰ r (ranges f ++ ranges g) → Wrong r → ⊥)
+    → Planted ns channels i (d - 1) f × Planted ns channels j (d - 1) g
+two f g s t h k r = (
+  one f s (omega arith) (λ c m. k c (Memᴰ·append-left (letters g) m)) (λ c m. r c (Memᴰ·append-left (ranges g) m)),
+  one g t (omega arith) (λ c m. k c (Memᴰ·append-right (letters f) m)) (λ c m. r c (Memᴰ·append-right (ranges f) m)),
+)
+
+made : {ns : List ℕ} {channels n d : ℕ} {e : Expression} → Stored ns n e → depth e ≤ d → ((k : ℕ) → List·Memᴰ k (letters e) → k < channels)
+    → ((r : Range) → List·Memᴰ r (ranges e) → Wrong r → ⊥) → Operands ns channels (d - 1) e (nodeAt ns n)
+unfolding depth letters ranges
+made (stored-epsilon w) h k r = rw w refl
+made (stored-high w) h k r = rw w (refl, k _ (List·Memᴰ·head refl))
+made (stored-low w) h k r = rw w (refl, k _ (List·Memᴰ·head refl))
+made (stored-union {e = f} {f = g} w a b x y) h k r = let t = two f g x y h k r in rw w (f, g, refl, t .0, t .1)
+made (stored-intersection {e = f} {f = g} w a b x y) h k r = let t = two f g x y h k r in rw w (f, g, refl, t .0, t .1)
+made (stored-concatenation {e = f} {f = g} w a b x y) h k r = let t = two f g x y h k r in rw w (f, g, refl, t .0, t .1)
+made (stored-star {e = f} w a x) h k r = rw w (f, refl, one f x h k r)
+made (stored-band {r = q} {e = f} w a x) h k r = rw w (f, refl, r q (List·Memᴰ·head refl), one f x h k (λ c m. r c (List·Memᴰ·tail m)))
+
+-- The operands of a planted node are planted, with a depth of one less left.
+pub operands : {ns : List ℕ} {channels n d : ℕ} {e : Expression} → Planted ns channels n d e → Operands ns channels (d - 1) e (nodeAt ns n)
+operands p = made (p .stored) (p .shallow) (p .known) (p .right)
+
+-- RANGES
+
+abbrev pub InOrder : ℕ → Upper → Type 0
+InOrder lo Endless = Unit {0}
+InOrder lo (UpTo hi) = (lo ≤ hi) × (hi ≤ 1000000)
+
+-- A range that is not wrong has bounds of at most 1,000,000, in order.
+pub right-range : (lo : ℕ) (hi : Upper) → (Wrong (record { lo = lo; hi = hi }) → ⊥) → (lo ≤ 1000000) × InOrder lo hi
+right-range lo Endless w = let a : 1000000 < lo → ⊥ = λ h. w (inl h) in (omega arith, tt)
+right-range lo (UpTo hi) w =
+    let a : 1000000 < lo → ⊥ = λ h. w (inl h) in
+    let b : 1000000 < hi → ⊥ = λ h. w (inr (inl h)) in
+    let c : hi < lo → ⊥ = λ h. w (inr (inr h)) in
+    (omega arith, (omega arith, omega arith))

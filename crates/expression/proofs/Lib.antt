@@ -1,0 +1,11 @@
+pub mod Text
+pub mod Sound
+pub mod Steps
+pub mod Complete
+pub mod Nodes
+pub mod Checks
+pub mod Numbers
+pub mod Turns
+pub mod Answers
+pub mod Laws
+pub mod Examples

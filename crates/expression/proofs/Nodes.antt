@@ -1,0 +1,73 @@
+-- Laws of the node buffer. Assumes nothing.
+use mathlib.Core.Path.{_≡_, refl, _∙_}
+use mathlib.Core.List.{List}
+use Prim.Native.Nat.{ℕ, _+_, _*_, _<_, _≤_}
+use native.Mathlib.Omega.{arith}
+use lib.ListN.{length, set, length-set}
+use lib.Seq.{getD-set-same, getD-set-other}
+use Rattle.expression.specs.declared.Node.{Node}
+use Rattle.expression.specs.Expression.{Expression}
+use Rattle.expression.specs.Stored.{
+  decoded,
+  nodeAt,
+  Stored,
+  stored-epsilon,
+  stored-high,
+  stored-low,
+  stored-union,
+  stored-intersection,
+  stored-concatenation,
+  stored-star,
+  stored-band,
+}
+use Rattle.expression.specs.Readers.{Kept, Placed}
+
+pub kept-refl : (m : ℕ) (ns : List ℕ) → Kept m ns ns
+kept-refl m ns = record { kept = λ k l. refl }
+
+pub kept-trans : {m m' : ℕ} {a b c : List ℕ} → m ≤ m' → Kept m a b → Kept m' b c → Kept m a c
+kept-trans h p q = record { kept = λ k l. q .kept k (omega arith) ∙ p .kept k l }
+
+node-keep : {m : ℕ} {ns ns' : List ℕ} (n : ℕ) → n * 4 + 4 ≤ m → Kept m ns ns' → nodeAt ns' n ≡ nodeAt ns n
+unfolding nodeAt
+node-keep n h k = rw (k .kept (n * 4) (omega arith), k .kept (n * 4 + 1) (omega arith), k .kept (n * 4 + 2) (omega arith), k .kept (n * 4 + 3) (omega arith))
+
+-- what is stored stays, as long as the words up to its root do
+pub stored-keep : {m : ℕ} {ns ns' : List ℕ} {n : ℕ} {e : Expression} → n * 4 + 4 ≤ m → Kept m ns ns' → Stored ns n e → Stored ns' n e
+stored-keep h k (stored-epsilon w) = stored-epsilon (node-keep _ h k ∙ w)
+stored-keep h k (stored-high w) = stored-high (node-keep _ h k ∙ w)
+stored-keep h k (stored-low w) = stored-low (node-keep _ h k ∙ w)
+stored-keep h k (stored-union w a b x y) = stored-union (node-keep _ h k ∙ w) a b (stored-keep (omega arith) k x) (stored-keep (omega arith) k y)
+stored-keep h k (stored-intersection w a b x y) = stored-intersection (node-keep _ h k ∙ w) a b (stored-keep (omega arith) k x) (stored-keep (omega arith) k y)
+stored-keep h k (stored-concatenation w a b x y) = stored-concatenation (node-keep _ h k ∙ w) a b (stored-keep (omega arith) k x) (stored-keep (omega arith) k y)
+stored-keep h k (stored-star w a x) = stored-star (node-keep _ h k ∙ w) a (stored-keep (omega arith) k x)
+stored-keep h k (stored-band w a x) = stored-band (node-keep _ h k ∙ w) a (stored-keep (omega arith) k x)
+
+-- the four words of node n, written one after the other
+pub stores : (ns : List ℕ) {i n : ℕ} (op x y z : ℕ) {node : Node} → i ≡ n → n * 4 + 4 ≤ length ns → decoded op x y z ≡ node
+    → Placed n node ns (set (set (set (set ns (i * 4) op) (i * 4 + 1) x) (i * 4 + 2) y) (i * 4 + 3) z)
+unfolding nodeAt
+stores ns {i} {n} op x y z e h d =
+    let a : n * 4 < length ns = omega arith in
+    let b : n * 4 + 1 < length (set ns (n * 4) op) = simp length-set (omega arith) in
+    let c : n * 4 + 2 < length (set (set ns (n * 4) op) (n * 4 + 1) x) = simp length-set (omega arith) in
+    let f : n * 4 + 3 < length (set (set (set ns (n * 4) op) (n * 4 + 1) x) (n * 4 + 2) y) = simp length-set (omega arith) in
+    let ab : n * 4 ≡ n * 4 + 1 → ⊥ = omega arith in
+    let ac : n * 4 ≡ n * 4 + 2 → ⊥ = omega arith in
+    let ad : n * 4 ≡ n * 4 + 3 → ⊥ = omega arith in
+    let bc : n * 4 + 1 ≡ n * 4 + 2 → ⊥ = omega arith in
+    let bd : n * 4 + 1 ≡ n * 4 + 3 → ⊥ = omega arith in
+    let cd : n * 4 + 2 ≡ n * 4 + 3 → ⊥ = omega arith in
+    rw e
+    (record {
+      placed = simp (getD-set-other, getD-set-same) d;
+      others =
+          record {
+            kept = λ k l.
+                let p : k ≡ n * 4 → ⊥ = omega arith in
+                let q : k ≡ n * 4 + 1 → ⊥ = omega arith in
+                let r : k ≡ n * 4 + 2 → ⊥ = omega arith in
+                let s : k ≡ n * 4 + 3 → ⊥ = omega arith in
+                simp getD-set-other;
+          };
+    })

@@ -1,0 +1,206 @@
+-- Recursive descent by equations that are free of the bounds on its depth. Assumes nothing.
+use mathlib.Core.Path.{_≡_, refl, _∙_}
+use mathlib.Core.Bool.{Bool, true, false}
+use mathlib.Core.List.{List}
+use Prim.Native.Nat.{ℕ, zero, suc, _+_, _*_, _<_, _≤_}
+use native.Mathlib.Omega.{arith}
+use lib.ListN.{length}
+use Rattle.expression.specs.Expression.{Expression, epsilon, high, low, star, band}
+use Rattle.expression.specs.Descent.{
+  Got,
+  no,
+  yes,
+  branch,
+  bind,
+  starts,
+  rest,
+  expect,
+  limits,
+  marks,
+  lettered,
+  Join,
+  bars,
+  ampersands,
+  dots,
+  mark,
+  joined,
+  Rank,
+  joining,
+  repeating,
+  single,
+  below,
+  read,
+  joins,
+  height,
+  need,
+  descent,
+  joinsAfter,
+  marksAfter,
+}
+use Rattle.expression.proofs.Text.{starts-shorter}
+use Rattle.expression.proofs.Sound.{shorter, limits-shorter}
+
+bind-same : {A B : Type 0} (g : Got A) {g' : Got A} (k k' : A → List ℕ → Got B) → g ≡ g' → ((x : A) (r : List ℕ) → g ≡ yes x r → k x r ≡ k' x r) → bind g k ≡ bind g' k'
+unfolding bind
+bind-same no k k' e f = rw (← e) refl
+bind-same (yes x r) k k' e f = rw (← e) (f x r refl)
+
+branch-same : {A : Type 0} (b : Bool) (a c a' c' : Unit {0} → Got A) → (b ≡ true → a tt ≡ a' tt) → c tt ≡ c' tt → branch b a c ≡ branch b a' c'
+unfolding branch
+branch-same true a c a' c' p q = p refl
+branch-same false a c a' c' p q = q
+
+marks-same : (n m : ℕ) (e : Expression) (s : List ℕ) → length s < n → length s < m → marks n e s ≡ marks m e s
+unfolding marks
+marks-same zero m e s h k = absurd (omega arith)
+marks-same (suc n) zero e s h k = absurd (omega arith)
+marks-same (suc n) (suc m) e s h k =
+    branch-same _ _ _ _ _ (λ w. let f = starts-shorter 42 s w in marks-same n m (star e) (rest s) (omega arith) (omega arith))
+    (branch-same _ _ _ _ _
+    (λ w.
+    let f = starts-shorter 123 s w in
+    bind-same (limits (rest s)) _ _ refl (λ x r g. let d = limits-shorter (rest s) x r g in marks-same n m (band x e) r (omega arith) (omega arith)))
+    refl)
+
+below-height : (j : Join) → height (joining j) ≡ height (below j) + 1
+unfolding height
+below-height bars = refl
+below-height ampersands = refl
+below-height dots = refl
+
+height-low : (j : Join) → height (joining j) ≤ 5
+unfolding height
+height-low bars = omega arith
+height-low ampersands = omega arith
+height-low dots = omega arith
+
+height-some : (k : Rank) → 0 < height k
+unfolding height
+height-some (joining bars) = omega arith
+height-some (joining ampersands) = omega arith
+height-some (joining dots) = omega arith
+height-some repeating = omega arith
+height-some single = omega arith
+
+height-repeating : height repeating ≡ height single + 1
+unfolding height
+height-repeating = refl
+
+-- above the bound, the depth does not count
+mutual
+  unfolding read
+
+  same : (n m : ℕ) (k : Rank) (s : List ℕ) → need k s ≤ n → need k s ≤ m → read n k s ≡ read m k s
+  same zero m k s h l = absurd (omega (arith, height-some k))
+  same (suc n) zero k s h l = absurd (omega (arith, height-some k))
+  same (suc n) (suc m) (joining j) s h l =
+      let d = below-height j in
+      let b = height-some (below j) in
+      bind-same _ _ _ (same n m (below j) s (omega arith) (omega arith))
+      (λ e r g. let f = shorter n (below j) s e r g in joins-same n m j e r (omega arith) (omega arith))
+  same (suc n) (suc m) repeating s h l = let d = height-repeating in bind-same _ _ _ (same n m single s (omega arith) (omega arith)) (λ e r g. refl)
+  same (suc n) (suc m) single s h l =
+      let d = height-some single in
+      branch-same _ _ _ _ _ (λ w. refl)
+      (branch-same _ _ _ _ _ (λ w. refl)
+      (branch-same _ _ _ _ _
+      (λ w.
+      let f = starts-shorter 40 s w in
+      bind-same _ _ _ (same n m (joining bars) (rest s) (omega (arith, height-low bars)) (omega (arith, height-low bars))) (λ e r g. refl))
+      refl))
+
+  joins-same : (n m : ℕ) (j : Join) (e : Expression) (s : List ℕ) → length s * 8 < n → length s * 8 < m → joins n j e s ≡ joins m j e s
+  joins-same zero m j e s h l = absurd (omega arith)
+  joins-same (suc n) zero j e s h l = absurd (omega arith)
+  joins-same (suc n) (suc m) j e s h l =
+      branch-same _ _ _ _ _
+      (λ w.
+      let d = starts-shorter (mark j) s w in
+      let b = below-height j in
+      let c = height-low j in
+      bind-same _ _ _ (same n m (below j) (rest s) (omega arith) (omega arith))
+      (λ f r g. let i = shorter n (below j) (rest s) f r g in joins-same n m j (joined j e f) r (omega arith) (omega arith)))
+      refl
+
+-- the equations, by which the code's proofs go
+pub joining-is : (j : Join) (s : List ℕ) → descent (joining j) s ≡ bind (descent (below j) s) (λ e r. joinsAfter j e r)
+unfolding read descent joinsAfter
+joining-is j s =
+    let d = below-height j in
+    let b = height-some (below j) in
+    same (need (joining j) s) (suc (need (below j) s)) (joining j) s (omega arith) (omega arith)
+    ∙ bind-same (read (need (below j) s) (below j) s) _ _ refl
+    (λ e r g. let f = shorter (need (below j) s) (below j) s e r g in joins-same (need (below j) s) (length r * 8 + 1) j e r (omega arith) (omega arith))
+
+pub repeating-is : (s : List ℕ) → descent repeating s ≡ bind (descent single s) (λ e r. marksAfter e r)
+unfolding read height descent marksAfter
+repeating-is s = same (need repeating s) (suc (need single s)) repeating s (omega arith) (omega arith)
+
+pub single-is : (s : List ℕ)
+    → descent single s
+    ≡ branch (starts 95 s) (λ _. yes epsilon (rest s))
+    (λ _. branch (starts 33 s) (λ _. lettered low (rest s))
+    (λ _. branch (starts 40 s) (λ _. bind (descent (joining bars) (rest s)) (λ e r. expect 41 e r)) (λ _. lettered high s)))
+unfolding read height descent
+single-is s =
+    same (need single s) (suc (length s * 8)) single s (omega arith) (omega arith)
+    ∙ branch-same _ _ _ _ _ (λ w. refl)
+    (branch-same _ _ _ _ _ (λ w. refl)
+    (branch-same _ _ _ _ _
+    (λ w.
+    let f = starts-shorter 40 s w in
+    bind-same _ _ _ (same (length s * 8) (need (joining bars) (rest s)) (joining bars) (rest s) (omega arith) (omega arith)) (λ e r g. refl))
+    refl))
+
+joins-is : (j : Join) (e : Expression) (s : List ℕ)
+    → joinsAfter j e s ≡ branch (starts (mark j) s) (λ _. bind (descent (below j) (rest s)) (λ f r. joinsAfter j (joined j e f) r)) (λ _. yes e s)
+unfolding read descent joinsAfter
+joins-is j e s =
+    joins-same (length s * 8 + 1) (suc (length s * 8)) j e s (omega arith) (omega arith)
+    ∙ branch-same _ _ _ _ _
+    (λ w.
+    let d = starts-shorter (mark j) s w in
+    let b = below-height j in
+    let c = height-low j in
+    bind-same _ _ _ (same (length s * 8) (need (below j) (rest s)) (below j) (rest s) (omega arith) (omega arith))
+    (λ f r g.
+    let i = shorter (length s * 8) (below j) (rest s) f r g in
+    joins-same (length s * 8) (length r * 8 + 1) j (joined j e f) r (omega arith) (omega arith)))
+    refl
+
+marks-is : (e : Expression) (s : List ℕ)
+    → marksAfter e s
+    ≡ branch (starts 42 s) (λ _. marksAfter (star e) (rest s))
+    (λ _. branch (starts 123 s) (λ _. bind (limits (rest s)) (λ x r. marksAfter (band x e) r)) (λ _. yes e s))
+unfolding marks marksAfter
+marks-is e s =
+    branch-same _ _ _ _ _
+    (λ w. let f = starts-shorter 42 s w in marks-same (length s) (suc (length (rest s))) (star e) (rest s) (omega arith) (omega arith))
+    (branch-same _ _ _ _ _
+    (λ w.
+    let f = starts-shorter 123 s w in
+    bind-same (limits (rest s)) _ _ refl
+    (λ x r g. let d = limits-shorter (rest s) x r g in marks-same (length s) (suc (length r)) (band x e) r (omega arith) (omega arith)))
+    refl)
+
+module _ (j : Join) (e : Expression) (s : List ℕ) where
+  pub joins-on : starts (mark j) s ≡ true → joinsAfter j e s ≡ bind (descent (below j) (rest s)) (λ f r. joinsAfter j (joined j e f) r)
+  unfolding branch
+  joins-on h = joins-is j e s ∙ rw h
+
+  pub joins-off : starts (mark j) s ≡ false → joinsAfter j e s ≡ yes e s
+  unfolding branch
+  joins-off h = joins-is j e s ∙ rw h
+
+module _ (e : Expression) (s : List ℕ) where
+  pub marks-star : starts 42 s ≡ true → marksAfter e s ≡ marksAfter (star e) (rest s)
+  unfolding branch
+  marks-star h = marks-is e s ∙ rw h
+
+  pub marks-band : starts 42 s ≡ false → starts 123 s ≡ true → marksAfter e s ≡ bind (limits (rest s)) (λ x r. marksAfter (band x e) r)
+  unfolding branch
+  marks-band h k = marks-is e s ∙ rw (h, k)
+
+  pub marks-off : starts 42 s ≡ false → starts 123 s ≡ false → marksAfter e s ≡ yes e s
+  unfolding branch
+  marks-off h k = marks-is e s ∙ rw (h, k)

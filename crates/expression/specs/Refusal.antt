@@ -1,0 +1,43 @@
+-- Document 01, "Turned back": the causes 4 to 8, which are those of a drill, and which of them is given.
+use mathlib.Core.Path.{_≡_}
+use mathlib.Core.List.{List, List·Memᴰ}
+use mathlib.Core.Logic.{_⊎_}
+use Prim.Native.Nat.{ℕ, _<_, _≤_}
+use lib.ListN.{length}
+use Rattle.expression.specs.declared.Range.{Range}
+use Rattle.expression.specs.declared.Upper.{Upper}
+use Rattle.expression.specs.declared.Upper.the-variants.{Endless, UpTo}
+use Rattle.expression.specs.Expression.{Expression, depth, letters, ranges}
+use Rattle.expression.specs.Grammar.{Form, alternative}
+
+-- "hi above 1,000,000, or lo > hi", where there is a hi
+abbrev pub WrongUpper : ℕ → Upper → Type 0
+WrongUpper lo Endless = ⊥
+WrongUpper lo (UpTo hi) = (1000000 < hi) ⊎ (hi < lo)
+
+-- "lo or hi above 1,000,000, or lo > hi"
+abbrev pub Wrong : Range → Type 0
+Wrong r = (1000000 < r .lo) ⊎ WrongUpper (r .lo) (r .hi)
+
+-- the cause of each number holds, of a text and the channel count of a recording
+pub data Cause (text : List ℕ) (channels : ℕ) : ℕ → Type 0 where
+  -- "drill of length 0 or over 255"
+  wrong-length : (length text ≡ 0) ⊎ (255 < length text) → Cause text channels 4
+  -- "drill not of the form above"
+  no-form : ((e : Expression) → Form alternative text e → ⊥) → Cause text channels 5
+  -- "a letter at or beyond the channel count"
+  wrong-letter : {e : Expression} {k : ℕ} → Form alternative text e → List·Memᴰ k (letters e) → channels ≤ k → Cause text channels 6
+  -- "lo or hi above 1,000,000, or lo > hi"
+  wrong-range : {e : Expression} {r : Range} → Form alternative text e → List·Memᴰ r (ranges e) → Wrong r → Cause text channels 7
+  -- "depth above 16"
+  too-deep : {e : Expression} → Form alternative text e → 16 < depth e → Cause text channels 8
+
+-- "Each is given when its cause holds and no earlier one does": n is the number of the first cause
+pub record Refused (text : List ℕ) (channels n : ℕ) : Type 0 where
+  pub holds : Cause text channels n
+  pub first : (m : ℕ) → m < n → Cause text channels m → ⊥
+
+-- no cause holds, and the text is the expression e
+pub record Accepted (text : List ℕ) (channels : ℕ) (e : Expression) : Type 0 where
+  pub form : Form alternative text e
+  pub none : (n : ℕ) → Cause text channels n → ⊥
