@@ -16,8 +16,8 @@ use Rattle.zone.proofs.Laws.{proper-meet, proper-compose, ranged}
 use Rattle.zone.proofs.Words.{same-zone}
 use Rattle.list.specs.Insert.{Built, listed, overfull, insert-each}
 use Rattle.list.specs.Operators.{Operation, Meet, Compose, apply, pairs}
-use Rattle.list.specs.Slots.{listAt, Holds, Kept, Disjoint, Sound}
-use Rattle.list.specs.Steps.{Mark, Growth, GrowsAs}
+use Rattle.list.specs.Slots.{listAt, Source, Holds, Kept, Disjoint}
+use Rattle.list.specs.Steps.{Mark, Growth, GrownAs}
 use Rattle.list.specs.declared.Grown.the-variants.{Grew, TooMany}
 use Rattle.list.proofs.Slots.{listAt-length, listAt-next, kept-refl, kept-trans, kept-apart}
 use Rattle.list.proofs.Puts.{holds-same}
@@ -41,8 +41,8 @@ listed-there ws base (suc n) (suc i) l =
     let e : base + 6 + i * 6 ≡ base + suc i * 6 = omega arith in
     List·Memᴰ·tail (subst (λ (a : ℕ). List·Memᴰ (zoneAt ws a) (listAt ws (base + 6) n)) e (listed-there ws (base + 6) n i (omega arith)))
 
-pub sound-there : {ws vs : List ℤ} {target from n i : ℕ} → Sound (listAt ws from n) → Kept target 768 ws vs → Disjoint from target → i < n → n ≤ 128 → {z : Zone} → z ≡ zoneAt vs (from + i * 6) → Proper 0 1_000_000 z
-sound-there {ws} {vs} {target} {from} {n} {i} s k d l few {z} e = s z (subst (λ (y : Zone). List·Memᴰ y (listAt ws from n)) (sym (e ∙ read-there from n i k d l few)) (listed-there ws from n i l))
+pub sound-there : {ws vs : List ℤ} {target : ℕ} (from n i : ℕ) → Source ws from n → Kept target 768 ws vs → Disjoint from target → i < n → {z : Zone} → z ≡ zoneAt vs (from + i * 6) → Proper 0 1_000_000 z
+sound-there {ws} from n i s k d l {z} e = s .sound z (subst (λ (y : Zone). List·Memᴰ y (listAt ws from n)) (sym (e ∙ read-there from n i k d l (s .few))) (listed-there ws from n i l))
 
 pub apply-sound : (op : Operation) (z w : Zone) {v : Zone} → Proper 0 1_000_000 z → Proper 0 1_000_000 w → apply op z w ≡ zone v → Proper 0 1_000_000 v
 apply-sound Meet z w p q e = proper-meet w p e

@@ -14,7 +14,7 @@ use Rattle.zone.specs.Words.{zoneAt, codes, overwrite}
 use Rattle.zone.proofs.Words.{written-zone}
 use Rattle.list.specs.Insert.{covered, outside, Put, away, placed, full, insert, insert-each}
 use Rattle.list.specs.Slots.{listAt, Holds, Kept, Placement, InsertAs}
-use Rattle.list.specs.Steps.{Mark, GrowsAs}
+use Rattle.list.specs.Steps.{Mark, GrownAs}
 use Rattle.list.specs.declared.Inserted.{Inserted}
 use Rattle.list.specs.declared.Inserted.the-variants.{Away, Placed, Full}
 use Rattle.list.specs.declared.Grown.{Grown}
@@ -68,7 +68,7 @@ grown-by changed n Full = TooMany
 
 module _ (z : Zone) (ws vs : List ℤ) (target n : ℕ) (changed : Bool) (few : n ≤ 128) where
   -- what the answer to a put means for the puts of one zone
-  pub grown : (r : Inserted) → InsertAs z ws target n vs r → GrowsAs (insert-each (zone z ∷ []) (listAt ws target n)) changed (listAt ws target n) vs target (grown-by changed n r)
+  pub grown : (r : Inserted) → InsertAs z ws target n vs r → GrownAs (insert-each (zone z ∷ []) (listAt ws target n)) changed (listAt ws target n) vs target (grown-by changed n r)
   unfolding insert-each
   grown Away a =
       record {

@@ -13,7 +13,7 @@ use borrow.Author.Tests.{ltb-true, ltb-false}
 use Rattle.zone.specs.declared.Zone.{Zone}
 use Rattle.zone.specs.Words.{word, zoneAt, codes, overwrite}
 use Rattle.zone.proofs.Words.{same-zone, written-zone, overwrite-length, overwrite-below, overwrite-above}
-use Rattle.list.specs.Slots.{listAt, Holds, Kept, Disjoint}
+use Rattle.list.specs.Slots.{listAt, Slot, Source, Sound, Holds, Kept, Disjoint}
 use Rattle.list.specs.Steps.{Copied}
 
 pub below-or-not : (a b : ℕ) → (a < b) ⊎ (b ≤ a)
@@ -63,6 +63,13 @@ listAt-kept a n {ws = ws} {vs = vs} p h = listAt-same ws vs a a n (kept-apart p 
 pub list-there : (from n : ℕ) {target : ℕ} {ws vs : List ℤ} → Kept target 768 ws vs → Disjoint from target → n ≤ 128 → listAt vs from n ≡ listAt ws from n
 list-there from n k (inl h) few = listAt-kept from n k (inl (omega arith))
 list-there from n k (inr h) few = listAt-kept from n k (inr h)
+
+-- and it can be combined still
+pub still-source : (from n : ℕ) {target : ℕ} {ws vs : List ℤ} → Source ws from n → Kept target 768 ws vs → Disjoint from target → Source vs from n
+still-source from n s k d = record { few = s .few; room = omega (arith, s .room, k .same-length); sound = subst Sound (sym (list-there from n k d (s .few))) (s .sound) }
+
+pub still-slot : {base n m target size : ℕ} {ws vs : List ℤ} → Slot ws base n → Kept target size ws vs → m ≤ 128 → Slot vs base m
+still-slot s k h = record { few = h; room = omega (arith, s .room, k .same-length) }
 
 pub listAt-copied : {from to : ℕ} (n : ℕ) {ws vs : List ℤ} → Copied from to (n * 6) ws vs → listAt vs to n ≡ listAt ws from n
 listAt-copied {from} {to} n {ws} {vs} c = listAt-same ws vs from to n (c .moved)

@@ -11,7 +11,7 @@ use Rattle.zone.specs.declared.Zone.{Zone}
 use Rattle.zone.specs.Words.{word}
 use Rattle.list.specs.Insert.{listed, overfull}
 use Rattle.list.specs.Star.{Outcome, finished, burst, Rounds, round}
-use Rattle.list.specs.Slots.{listAt, Holds, Kept, KeptBoth, Disjoint, Sound}
+use Rattle.list.specs.Slots.{listAt, Source, Holds, Kept, KeptBoth, Disjoint, Sound}
 use Rattle.list.specs.Steps.{Changes, Ending}
 use Rattle.list.proofs.Rounds.{After, After.begin as begin, After.turn as turn, after-proper, after-last, after-over}
 use Rattle.list.proofs.Bound.{after-bound}
@@ -42,9 +42,9 @@ at-list : {first second list copy : ℕ} (P : ℕ → ℕ → Type 0) → Facing
 at-list {first} {copy = copy} P (inl p) x y = subst (λ (k : ℕ). P k copy) (sym (p .0)) (subst (λ (j : ℕ). P first j) (sym (p .1)) x)
 at-list {second = second} {copy = copy} P (inr p) x y = subst (λ (k : ℕ). P k copy) (sym (p .0)) (subst (λ (j : ℕ). P second j) (sym (p .1)) y)
 
-module _ {inner m first second : ℕ} {ws₀ : List ℤ} (short : m ≤ 128) (d₁ : Disjoint inner first) (d₂ : Disjoint inner second) (d₃ : Disjoint first second) (sound : Sound (listAt ws₀ inner m)) where
+module _ {inner m first second : ℕ} {ws₀ : List ℤ} (source : Source ws₀ inner m) (d₁ : Disjoint inner first) (d₂ : Disjoint inner second) (d₃ : Disjoint first second) where
   pub turn-start : listAt ws₀ first m ≡ listAt ws₀ inner m → Turning inner m first second ws₀ ws₀ first second m 0
-  turn-start e = record { few = short; place = inl (refl, refl); frame = kept-neither first second ws₀; after = subst (After (listAt ws₀ inner m) 0) (sym e) begin }
+  turn-start e = record { few = source .few; place = inl (refl, refl); frame = kept-neither first second ws₀; after = subst (After (listAt ws₀ inner m) 0) (sym e) begin }
 
   module _ {ws : List ℤ} {list copy n made : ℕ} (t : Turning inner m first second ws₀ ws list copy n made) where
     pub turn-apart : Disjoint list copy
@@ -58,21 +58,21 @@ module _ {inner m first second : ℕ} {ws₀ : List ℤ} (short : m ≤ 128) (d�
 
     -- the inner list is where it was
     pub inner-same : listAt ws inner m ≡ listAt ws₀ inner m
-    inner-same = listAt-same ws₀ ws inner inner m (λ k h. t .frame .others (inner + k) (clear d₁ h) (clear d₂ h))
+    inner-same = listAt-same ws₀ ws inner inner m (λ k h. t .frame .others (inner + k) (clear d₁ h (source .few)) (clear d₂ h (source .few)))
       where
-        clear : {a k : ℕ} → Disjoint inner a → k < m * 6 → (inner + k < a) ⊎ (a + 768 ≤ inner + k)
-        clear (inl h) l = inl (omega arith)
-        clear (inr h) l = inr (omega arith)
+        clear : {a k : ℕ} → Disjoint inner a → k < m * 6 → m ≤ 128 → (inner + k < a) ⊎ (a + 768 ≤ inner + k)
+        clear (inl h) l f = inl (omega arith)
+        clear (inr h) l f = inr (omega arith)
 
     pub turn-sound : Sound (listAt ws list n)
-    turn-sound = after-proper sound (t .after)
+    turn-sound = after-proper (source .sound) (t .after)
 
-    pub inner-sound : Sound (listAt ws inner m)
-    inner-sound = subst Sound (sym inner-same) sound
+    pub turn-source : Source ws inner m
+    turn-source = record { few = source .few; room = omega (arith, source .room, t .frame .same-length); sound = subst Sound (sym inner-same) (source .sound) }
 
     -- the loop's measure, by the bound on rounds and nothing else
     pub turn-bound : suc made ≤ m + 1_000_000
-    turn-bound = let b = after-bound sound (omega arith) (t .after) in omega (arith, listAt-length ws₀ inner m)
+    turn-bound = let b = after-bound (source .sound) (omega arith) (t .after) in omega (arith, listAt-length ws₀ inner m)
 
     pub turn-kept : {vs : List ℤ} → Kept copy 768 ws vs → KeptBoth first second ws₀ vs
     turn-kept {vs} k =

@@ -38,6 +38,25 @@ pub record Kept (base size : ℕ) (ws vs : List ℤ) : Type 0 where
   pub below : (k : ℕ) → k < base → word vs k ≡ word ws k
   pub above : (k : ℕ) → base + size ≤ k → word vs k ≡ word ws k
 
+-- a slot of the buffer with n zones in it
+pub record Slot (ws : List ℤ) (base n : ℕ) : Type 0 where
+  pub few : n ≤ 128
+  pub room : base + 768 ≤ length ws
+
+-- the zones that are combined: tight and inside 0..1,000,000, so that the machine's numbers have room
+abbrev pub Sound : List Zone → Type 0
+Sound L = AllProper 0 1_000_000 L
+
+abbrev pub SoundBand : MaybeZone → Type 0
+SoundBand (zone z) = Proper 0 1_000_000 z
+SoundBand empty = Unit {0}
+
+-- a slot whose n zones are combined with others
+pub record Source (ws : List ℤ) (base n : ℕ) : Type 0 where
+  pub few : n ≤ 128
+  pub room : base + 768 ≤ length ws
+  pub sound : Sound (listAt ws base n)
+
 -- two slots have no word in common
 abbrev pub Disjoint : ℕ → ℕ → Type 0
 Disjoint a b = (a + 768 ≤ b) ⊎ (b + 768 ≤ a)
@@ -78,11 +97,3 @@ StarAs inner diagonal vs target Burst = Star inner diagonal burst
 pub record KeptBoth (a b : ℕ) (ws vs : List ℤ) : Type 0 where
   pub same-length : length vs ≡ length ws
   pub others : (k : ℕ) → (k < a) ⊎ (a + 768 ≤ k) → (k < b) ⊎ (b + 768 ≤ k) → word vs k ≡ word ws k
-
--- the zones that are combined: tight and inside 0..1,000,000, so that the machine's numbers have room
-abbrev pub Sound : List Zone → Type 0
-Sound L = AllProper 0 1_000_000 L
-
-abbrev pub SoundBand : MaybeZone → Type 0
-SoundBand (zone z) = Proper 0 1_000_000 z
-SoundBand empty = Unit {0}

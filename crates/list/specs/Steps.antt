@@ -1,4 +1,4 @@
--- What the private functions answer.
+-- What the private functions answer. No public contract cites it.
 use mathlib.Core.Path.{_≡_}
 use mathlib.Core.Bool.{Bool, true, false}
 use mathlib.Core.Logic.{_⊎_}
@@ -7,10 +7,11 @@ use Prim.Native.Nat.{ℕ, _+_, _*_, _≤_, _<_}
 use lib.IntN.{ℤ}
 use Rattle.zone.specs.declared.Zone.{Zone}
 use Rattle.zone.specs.Words.{word}
-use Rattle.list.specs.Insert.{Built, listed, overfull}
+use Rattle.zone.specs.declared.MaybeZone.{MaybeZone}
+use Rattle.list.specs.Insert.{Built, listed, overfull, insert-each}
 use Rattle.list.specs.Star.{Outcome, finished, burst, Rounds, round}
 use Rattle.list.specs.Pieces.{Covered}
-use Rattle.list.specs.Slots.{Holds, Kept}
+use Rattle.list.specs.Slots.{listAt, Holds, Kept}
 use Rattle.list.specs.declared.Grown.{Grown}
 use Rattle.list.specs.declared.Grown.the-variants.{Grew, TooMany}
 use Rattle.list.specs.declared.Round.{Round}
@@ -40,9 +41,13 @@ pub record Growth (built : Built) (before : Bool) (L : List Zone) (vs : List ℤ
   pub holds : Holds vs target n list
   pub marks : (S : List Zone) → Mark before S L → Mark changed S list
 
-abbrev pub GrowsAs : Built → Bool → List Zone → List ℤ → ℕ → Grown → Type 0
-GrowsAs built before L vs target (Grew n changed) = Growth built before L vs target n changed
-GrowsAs built before L vs target TooMany = built ≡ overfull
+abbrev pub GrownAs : Built → Bool → List Zone → List ℤ → ℕ → Grown → Type 0
+GrownAs built before L vs target (Grew n changed) = Growth built before L vs target n changed
+GrownAs built before L vs target TooMany = built ≡ overfull
+
+-- the zones `offered`, put into the slot's list of n zones among the words ws, with the words vs after
+abbrev pub GrowsAs : List MaybeZone → Bool → List ℤ → ℕ → ℕ → List ℤ → Grown → Type 0
+GrowsAs offered before ws target n vs = GrownAs (insert-each offered (listAt ws target n)) before (listAt ws target n) vs target
 
 -- one round from the list L, into the slot at `copy`
 pub record Changes (inner L : List Zone) (vs : List ℤ) (copy n : ℕ) : Type 0 where

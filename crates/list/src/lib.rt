@@ -6,18 +6,16 @@
 use zone::MaybeZone;
 use zone::Zone;
 ghost use mathlib.Core.Path.{_≡_};
-ghost use mathlib.Core.Bool.{Bool, false};
 ghost use mathlib.Core.Logic.{_⊎_};
-ghost use mathlib.Core.List.{List, [], _∷_, map};
+ghost use mathlib.Core.List.{[], _∷_, map};
 ghost use Prim.Native.Nat.{_+_, _*_, _≤_, _<_};
 ghost use lib.ListN.{length};
-ghost use Rattle.zone.specs.declared.Zone.{Zone};
 ghost use Rattle.zone.specs.declared.MaybeZone.the-variants.{Zone as zone};
-ghost use Rattle.zone.specs.Words.{word, zoneAt};
+ghost use Rattle.zone.specs.Words.{zoneAt};
 ghost use Rattle.zone.specs.Zone.{Proper, Ranged, contains, diagonal};
-ghost use Rattle.list.specs.Insert.{covered, outside, insert, insert-each};
+ghost use Rattle.list.specs.Insert.{covered, outside};
 ghost use Rattle.list.specs.Operators.{apply, pairs, union, meets, compositions, banded};
-ghost use Rattle.list.specs.Slots.{listAt, Holds, Kept, KeptBoth, Disjoint, Sound, SoundBand, InsertAs, BuiltAs, StarAs};
+ghost use Rattle.list.specs.Slots.{listAt, Slot, Source, Holds, Kept, KeptBoth, Disjoint, SoundBand, InsertAs, BuiltAs, StarAs};
 ghost use Rattle.list.specs.Steps.{Copied, KeepsAs, GrowsAs, RoundAs, EndsAs};
 
 // What a put comes to: turned away, placed with the new count, or a list that would have 129 zones.
@@ -82,7 +80,7 @@ fn copy_words(words: &mut [i32], from: usize, to: usize, n: usize)
 
 // Whether the zone of six words w lies inside a listed one.
 fn covered(words: &[i32], base: usize, count: usize, w: &[i32]) -> bool
-    requires { ⌜ (count ≤ 128) × (base + 768 ≤ length (now words)) × (6 ≤ length (now w)) ⌝ }
+    requires { ⌜ (Slot (now words) base count) × (6 ≤ length (now w)) ⌝ }
     ensures { λ r. ⌜ r ≡ covered (zoneAt (now (w .entry)) 0) (listAt (now (words .entry)) base count) ⌝ }
 {
     let mut i = 0;
@@ -109,7 +107,7 @@ fn keep_outside(words: &mut [i32], base: usize, i: usize, kept: usize, w: &[i32]
 
 // Removes the listed zones inside the one of six words w, the rest keeping their order; answers how many are left.
 fn remove_inside(words: &mut [i32], base: usize, count: usize, w: &[i32]) -> usize
-    requires { ⌜ (count ≤ 128) × (base + 768 ≤ length (now words)) × (6 ≤ length (now w)) ⌝ }
+    requires { ⌜ (Slot (now words) base count) × (6 ≤ length (now w)) ⌝ }
     ensures left { λ r. ⌜ Holds (now (words .exit)) base r (outside (zoneAt (now (w .entry)) 0) (listAt (now (words .entry)) base count)) ⌝ }
     ensures kept { λ _. ⌜ Kept base 768 (now (words .entry)) (now (words .exit)) ⌝ }
 {
@@ -124,7 +122,7 @@ fn remove_inside(words: &mut [i32], base: usize, count: usize, w: &[i32]) -> usi
 
 // Puts a zone into the list of a slot.
 pub fn insert(words: &mut [i32], base: usize, count: usize, z: Zone) -> Inserted
-    requires { ⌜ (count ≤ 128) × (base + 768 ≤ length (now words)) × (Ranged 1_000_000 z) ⌝ }
+    requires { ⌜ (Slot (now words) base count) × (Ranged 1_000_000 z) ⌝ }
     ensures { λ r. ⌜ InsertAs z (now (words .entry)) base count (now (words .exit)) r ⌝ }
 {
     let mut w = [0i32; 6];
@@ -142,8 +140,8 @@ pub fn insert(words: &mut [i32], base: usize, count: usize, z: Zone) -> Inserted
 
 // Puts one zone more into a growing list, and marks whether it was placed.
 fn grow(words: &mut [i32], target: usize, count: usize, changed: bool, z: Zone) -> Grown
-    requires { ⌜ (count ≤ 128) × (target + 768 ≤ length (now words)) × (Ranged 1_000_000 z) ⌝ }
-    ensures grown { λ r. ⌜ GrowsAs (insert-each (zone z ∷ []) (listAt (now (words .entry)) target count)) changed (listAt (now (words .entry)) target count) (now (words .exit)) target r ⌝ }
+    requires { ⌜ (Slot (now words) target count) × (Ranged 1_000_000 z) ⌝ }
+    ensures grown { λ r. ⌜ GrowsAs (zone z ∷ []) changed (now (words .entry)) target count (now (words .exit)) r ⌝ }
     ensures kept { λ _. ⌜ Kept target 768 (now (words .entry)) (now (words .exit)) ⌝ }
 {
     match insert(words, target, count, z) {
@@ -178,8 +176,8 @@ fn each_right(
     count: usize,
     changed: bool,
 ) -> Grown
-    requires { ⌜ (m ≤ 128) × (count ≤ 128) × (right + 768 ≤ length (now words)) × (target + 768 ≤ length (now words)) × (Disjoint right target) × (Proper 0 1_000_000 z) × (Sound (listAt (now words) right m)) ⌝ }
-    ensures grown { λ r. ⌜ GrowsAs (insert-each (map (apply op z) (listAt (now (words .entry)) right m)) (listAt (now (words .entry)) target count)) changed (listAt (now (words .entry)) target count) (now (words .exit)) target r ⌝ }
+    requires { ⌜ (Source (now words) right m) × (Slot (now words) target count) × (Disjoint right target) × (Proper 0 1_000_000 z) ⌝ }
+    ensures grown { λ r. ⌜ GrowsAs (map (apply op z) (listAt (now (words .entry)) right m)) changed (now (words .entry)) target count (now (words .exit)) r ⌝ }
     ensures kept { λ _. ⌜ Kept target 768 (now (words .entry)) (now (words .exit)) ⌝ }
 {
     let mut n = count;
@@ -219,8 +217,8 @@ fn each_pair(
     count: usize,
     changed: bool,
 ) -> Grown
-    requires { ⌜ (n ≤ 128) × (m ≤ 128) × (count ≤ 128) × (left + 768 ≤ length (now words)) × (right + 768 ≤ length (now words)) × (target + 768 ≤ length (now words)) × (Disjoint left target) × (Disjoint right target) × (Sound (listAt (now words) left n)) × (Sound (listAt (now words) right m)) ⌝ }
-    ensures grown { λ r. ⌜ GrowsAs (insert-each (pairs op (listAt (now (words .entry)) left n) (listAt (now (words .entry)) right m)) (listAt (now (words .entry)) target count)) changed (listAt (now (words .entry)) target count) (now (words .exit)) target r ⌝ }
+    requires { ⌜ (Source (now words) left n) × (Source (now words) right m) × (Slot (now words) target count) × (Disjoint left target) × (Disjoint right target) ⌝ }
+    ensures grown { λ r. ⌜ GrowsAs (pairs op (listAt (now (words .entry)) left n) (listAt (now (words .entry)) right m)) changed (now (words .entry)) target count (now (words .exit)) r ⌝ }
     ensures kept { λ _. ⌜ Kept target 768 (now (words .entry)) (now (words .exit)) ⌝ }
 {
     let mut k = count;
@@ -254,8 +252,8 @@ fn each_zone(
     count: usize,
     changed: bool,
 ) -> Grown
-    requires { ⌜ (n ≤ 128) × (count ≤ 128) × (source + 768 ≤ length (now words)) × (target + 768 ≤ length (now words)) × (Disjoint source target) × (Sound (listAt (now words) source n)) ⌝ }
-    ensures grown { λ r. ⌜ GrowsAs (insert-each (map zone (listAt (now (words .entry)) source n)) (listAt (now (words .entry)) target count)) changed (listAt (now (words .entry)) target count) (now (words .exit)) target r ⌝ }
+    requires { ⌜ (Source (now words) source n) × (Slot (now words) target count) × (Disjoint source target) ⌝ }
+    ensures grown { λ r. ⌜ GrowsAs (map zone (listAt (now (words .entry)) source n)) changed (now (words .entry)) target count (now (words .exit)) r ⌝ }
     ensures kept { λ _. ⌜ Kept target 768 (now (words .entry)) (now (words .exit)) ⌝ }
 {
     let mut k = count;
@@ -289,7 +287,7 @@ pub fn union(
     m: usize,
     target: usize,
 ) -> Listed
-    requires { ⌜ (n ≤ 128) × (m ≤ 128) × (left + 768 ≤ length (now words)) × (right + 768 ≤ length (now words)) × (target + 768 ≤ length (now words)) × (Disjoint left target) × (Disjoint right target) × (Sound (listAt (now words) left n)) × (Sound (listAt (now words) right m)) ⌝ }
+    requires { ⌜ (Source (now words) left n) × (Source (now words) right m) × (target + 768 ≤ length (now words)) × (Disjoint left target) × (Disjoint right target) ⌝ }
     ensures built { λ r. ⌜ BuiltAs (union (listAt (now (words .entry)) left n) (listAt (now (words .entry)) right m)) (now (words .exit)) target r ⌝ }
     ensures kept { λ _. ⌜ Kept target 768 (now (words .entry)) (now (words .exit)) ⌝ }
 {
@@ -311,7 +309,7 @@ pub fn meets(
     m: usize,
     target: usize,
 ) -> Listed
-    requires { ⌜ (n ≤ 128) × (m ≤ 128) × (left + 768 ≤ length (now words)) × (right + 768 ≤ length (now words)) × (target + 768 ≤ length (now words)) × (Disjoint left target) × (Disjoint right target) × (Sound (listAt (now words) left n)) × (Sound (listAt (now words) right m)) ⌝ }
+    requires { ⌜ (Source (now words) left n) × (Source (now words) right m) × (target + 768 ≤ length (now words)) × (Disjoint left target) × (Disjoint right target) ⌝ }
     ensures built { λ r. ⌜ BuiltAs (meets (listAt (now (words .entry)) left n) (listAt (now (words .entry)) right m)) (now (words .exit)) target r ⌝ }
     ensures kept { λ _. ⌜ Kept target 768 (now (words .entry)) (now (words .exit)) ⌝ }
 {
@@ -340,7 +338,7 @@ pub fn compositions(
     m: usize,
     target: usize,
 ) -> Listed
-    requires { ⌜ (n ≤ 128) × (m ≤ 128) × (left + 768 ≤ length (now words)) × (right + 768 ≤ length (now words)) × (target + 768 ≤ length (now words)) × (Disjoint left target) × (Disjoint right target) × (Sound (listAt (now words) left n)) × (Sound (listAt (now words) right m)) ⌝ }
+    requires { ⌜ (Source (now words) left n) × (Source (now words) right m) × (target + 768 ≤ length (now words)) × (Disjoint left target) × (Disjoint right target) ⌝ }
     ensures built { λ r. ⌜ BuiltAs (compositions (listAt (now (words .entry)) left n) (listAt (now (words .entry)) right m)) (now (words .exit)) target r ⌝ }
     ensures kept { λ _. ⌜ Kept target 768 (now (words .entry)) (now (words .exit)) ⌝ }
 {
@@ -369,7 +367,7 @@ pub fn band(
     scratch: usize,
     target: usize,
 ) -> Listed
-    requires { ⌜ (n ≤ 128) × (source + 768 ≤ length (now words)) × (scratch + 768 ≤ length (now words)) × (target + 768 ≤ length (now words)) × (Disjoint source target) × (Disjoint scratch target) × (Disjoint source scratch) × (Sound (listAt (now words) source n)) × (SoundBand limits) ⌝ }
+    requires { ⌜ (Source (now words) source n) × (scratch + 768 ≤ length (now words)) × (target + 768 ≤ length (now words)) × (Disjoint source target) × (Disjoint scratch target) × (Disjoint source scratch) × (SoundBand limits) ⌝ }
     ensures built { λ r. ⌜ BuiltAs (banded limits (listAt (now (words .entry)) source n)) (now (words .exit)) target r ⌝ }
     ensures kept { λ _. ⌜ KeptBoth target scratch (now (words .entry)) (now (words .exit)) ⌝ }
 {
@@ -395,7 +393,7 @@ pub fn band(
 
 // One round: the list copied to `copy`, and there each listed zone's composition with each inner zone.
 fn one_round(words: &mut [i32], list: usize, n: usize, inner: usize, m: usize, copy: usize) -> Round
-    requires { ⌜ (n ≤ 128) × (m ≤ 128) × (list + 768 ≤ length (now words)) × (inner + 768 ≤ length (now words)) × (copy + 768 ≤ length (now words)) × (Disjoint list copy) × (Disjoint inner copy) × (Sound (listAt (now words) list n)) × (Sound (listAt (now words) inner m)) ⌝ }
+    requires { ⌜ (Source (now words) list n) × (Source (now words) inner m) × (copy + 768 ≤ length (now words)) × (Disjoint list copy) × (Disjoint inner copy) ⌝ }
     ensures round { λ r. ⌜ RoundAs (listAt (now (words .entry)) inner m) (listAt (now (words .entry)) list n) (now (words .exit)) copy r ⌝ }
     ensures kept { λ _. ⌜ Kept copy 768 (now (words .entry)) (now (words .exit)) ⌝ }
 {
@@ -423,7 +421,7 @@ fn one_round(words: &mut [i32], list: usize, n: usize, inner: usize, m: usize, c
 // All rounds of a star, from the inner list at `first` on. A round goes from the one slot to the other, so that only the
 // copy is made that a round is. The loop ends by the bound on rounds.
 fn all_rounds(words: &mut [i32], inner: usize, m: usize, first: usize, second: usize) -> Ended
-    requires { ⌜ (m ≤ 128) × (inner + 768 ≤ length (now words)) × (first + 768 ≤ length (now words)) × (second + 768 ≤ length (now words)) × (Disjoint inner first) × (Disjoint inner second) × (Disjoint first second) × (Sound (listAt (now words) inner m)) × (listAt (now words) first m ≡ listAt (now words) inner m) ⌝ }
+    requires { ⌜ (Source (now words) inner m) × (first + 768 ≤ length (now words)) × (second + 768 ≤ length (now words)) × (Disjoint inner first) × (Disjoint inner second) × (Disjoint first second) × (listAt (now words) first m ≡ listAt (now words) inner m) ⌝ }
     ensures ended { λ r. ⌜ EndsAs (listAt (now (words .entry)) inner m) first second (now (words .exit)) r ⌝ }
     ensures kept { λ _. ⌜ KeptBoth first second (now (words .entry)) (now (words .exit)) ⌝ }
 {
@@ -476,7 +474,7 @@ pub fn star(
     from: u32,
     to: u32,
 ) -> Starred
-    requires { ⌜ (m ≤ 128) × (inner + 768 ≤ length (now words)) × (target + 768 ≤ length (now words)) × (scratch + 768 ≤ length (now words)) × (Disjoint inner target) × (Disjoint inner scratch) × (Disjoint target scratch) × (Sound (listAt (now words) inner m)) × (from ≤ to) × (to ≤ 1_000_000) ⌝ }
+    requires { ⌜ (Source (now words) inner m) × (target + 768 ≤ length (now words)) × (scratch + 768 ≤ length (now words)) × (Disjoint inner target) × (Disjoint inner scratch) × (Disjoint target scratch) × (from ≤ to) × (to ≤ 1_000_000) ⌝ }
     ensures closed { λ r. ⌜ StarAs (listAt (now (words .entry)) inner m) (diagonal from to) (now (words .exit)) target r ⌝ }
     ensures kept { λ _. ⌜ KeptBoth target scratch (now (words .entry)) (now (words .exit)) ⌝ }
 {

@@ -1,4 +1,4 @@
-use Rattle.list.proofs.Turning.{Turning, turn-start, turn-apart, turn-inner, turn-room, turn-sound, inner-sound, turn-bound, turn-kept, turn-next, turn-end, turn-over}
+use Rattle.list.proofs.Turning.{Turning, turn-start, turn-apart, turn-inner, turn-room, turn-sound, turn-source, turn-bound, turn-kept, turn-next, turn-end, turn-over}
 use borrow.Author.Needs.{needs}
 use native.Mathlib.Omega.{arith}
 use mathlib.Core.Path.{_∙_}
@@ -16,24 +16,20 @@ abbrev μ-loop : tie.MeasureT-loop
 μ-loop words₀ inner m first second list₀ copy₀ n₀ made₀ words list copy n made = (m + 1_000_000) - made
 
 loop-holds : tie.Need-loop-holds Inv-loop μ-loop
-loop-holds c = turn-start (c .pre .0) (c .pre .4) (c .pre .5) (c .pre .6) (c .pre .7) (c .pre .8)
+loop-holds c = turn-start (c .pre .0) (c .pre .3) (c .pre .4) (c .pre .5) (c .pre .6)
 
 add-made : tie.Need-add-made Inv-loop μ-loop
-add-made c = omega (arith, turn-bound (c .before .pre .0) (c .before .pre .4) (c .before .pre .5) (c .before .pre .6) (c .before .pre .7) (c .loop .inv))
+add-made c = omega (arith, turn-bound (c .before .pre .0) (c .before .pre .3) (c .before .pre .4) (c .before .pre .5) (c .loop .inv))
 
 one-round-requires : tie.Need-one-round-requires Inv-loop μ-loop
 one-round-requires c κs =
     let t = c .before .loop .inv in
-    let room = turn-room (c .before .before .pre .0) (c .before .before .pre .4) (c .before .before .pre .5) (c .before .before .pre .6) (c .before .before .pre .7) t (c .before .before .pre .2) (c .before .before .pre .3) in (
-      t .few,
-      c .before .before .pre .0,
-      room .0,
-      omega (arith, t .frame .same-length),
+    let room = turn-room (c .before .before .pre .0) (c .before .before .pre .3) (c .before .before .pre .4) (c .before .before .pre .5) t (c .before .before .pre .1) (c .before .before .pre .2) in (
+      record { few = t .few; room = room .0; sound = turn-sound (c .before .before .pre .0) (c .before .before .pre .3) (c .before .before .pre .4) (c .before .before .pre .5) t },
+      turn-source (c .before .before .pre .0) (c .before .before .pre .3) (c .before .before .pre .4) (c .before .before .pre .5) t,
       room .1,
-      turn-apart (c .before .before .pre .0) (c .before .before .pre .4) (c .before .before .pre .5) (c .before .before .pre .6) (c .before .before .pre .7) t,
-      turn-inner (c .before .before .pre .0) (c .before .before .pre .4) (c .before .before .pre .5) (c .before .before .pre .6) (c .before .before .pre .7) t,
-      turn-sound (c .before .before .pre .0) (c .before .before .pre .4) (c .before .before .pre .5) (c .before .before .pre .6) (c .before .before .pre .7) t,
-      inner-sound (c .before .before .pre .0) (c .before .before .pre .4) (c .before .before .pre .5) (c .before .before .pre .6) (c .before .before .pre .7) t,
+      turn-apart (c .before .before .pre .0) (c .before .before .pre .3) (c .before .before .pre .4) (c .before .before .pre .5) t,
+      turn-inner (c .before .before .pre .0) (c .before .before .pre .3) (c .before .before .pre .4) (c .before .before .pre .5) t,
     )
 
 enum-told : tie.Need-enum-told Inv-loop μ-loop
@@ -43,16 +39,16 @@ same-length : tie.Need-same-length Inv-loop μ-loop
 same-length c = c .before .before .before .one-round .ensures .1 .same-length ∙ c .before .before .before .before .before .loop .inv .frame .same-length
 
 returns : tie.Need-returns Inv-loop μ-loop
-returns c = (turn-end (c .before .before .before .before .before .before .pre .0) (c .before .before .before .before .before .before .pre .4) (c .before .before .before .before .before .before .pre .5) (c .before .before .before .before .before .before .pre .6) (c .before .before .before .before .before .before .pre .7) (c .before .before .before .before .before .loop .inv) (rw (c .enum-told .given .1) at (c .before .before .before .one-round .ensures .0)) (c .before .before .before .one-round .ensures .1), turn-kept (c .before .before .before .before .before .before .pre .0) (c .before .before .before .before .before .before .pre .4) (c .before .before .before .before .before .before .pre .5) (c .before .before .before .before .before .before .pre .6) (c .before .before .before .before .before .before .pre .7) (c .before .before .before .before .before .loop .inv) (c .before .before .before .one-round .ensures .1))
+returns c = (turn-end (c .before .before .before .before .before .before .pre .0) (c .before .before .before .before .before .before .pre .3) (c .before .before .before .before .before .before .pre .4) (c .before .before .before .before .before .before .pre .5) (c .before .before .before .before .before .loop .inv) (rw (c .enum-told .given .1) at (c .before .before .before .one-round .ensures .0)) (c .before .before .before .one-round .ensures .1), turn-kept (c .before .before .before .before .before .before .pre .0) (c .before .before .before .before .before .before .pre .3) (c .before .before .before .before .before .before .pre .4) (c .before .before .before .before .before .before .pre .5) (c .before .before .before .before .before .loop .inv) (c .before .before .before .one-round .ensures .1))
 
 enum-known-k : tie.Need-enum-known-k Inv-loop μ-loop
 enum-known-k c = search needs
 
 loop-less : tie.Need-loop-less Inv-loop μ-loop
-loop-less c = omega (arith, turn-bound (c .before .before .before .before .before .before .before .pre .0) (c .before .before .before .before .before .before .before .pre .4) (c .before .before .before .before .before .before .before .pre .5) (c .before .before .before .before .before .before .before .pre .6) (c .before .before .before .before .before .before .before .pre .7) (c .before .before .before .before .before .before .loop .inv))
+loop-less c = omega (arith, turn-bound (c .before .before .before .before .before .before .before .pre .0) (c .before .before .before .before .before .before .before .pre .3) (c .before .before .before .before .before .before .before .pre .4) (c .before .before .before .before .before .before .before .pre .5) (c .before .before .before .before .before .before .loop .inv))
 
 loop-again : tie.Need-loop-again Inv-loop μ-loop
-loop-again c = turn-next (c .before .before .before .before .before .before .before .pre .0) (c .before .before .before .before .before .before .before .pre .4) (c .before .before .before .before .before .before .before .pre .5) (c .before .before .before .before .before .before .before .pre .6) (c .before .before .before .before .before .before .before .pre .7) (c .before .before .before .before .before .before .loop .inv) (rw (c .before .k .given .1) at (c .before .before .before .before .one-round .ensures .0)) (c .before .before .before .before .one-round .ensures .1)
+loop-again c = turn-next (c .before .before .before .before .before .before .before .pre .0) (c .before .before .before .before .before .before .before .pre .3) (c .before .before .before .before .before .before .before .pre .4) (c .before .before .before .before .before .before .before .pre .5) (c .before .before .before .before .before .before .loop .inv) (rw (c .before .k .given .1) at (c .before .before .before .before .one-round .ensures .0)) (c .before .before .before .before .one-round .ensures .1)
 
 enum-told-2 : tie.Need-enum-told-2 Inv-loop μ-loop
 enum-told-2 c = search needs
@@ -61,7 +57,7 @@ same-length-2 : tie.Need-same-length-2 Inv-loop μ-loop
 same-length-2 c = c .before .before .before .one-round .ensures .1 .same-length ∙ c .before .before .before .before .before .loop .inv .frame .same-length
 
 returns-2 : tie.Need-returns-2 Inv-loop μ-loop
-returns-2 c = (turn-over (c .before .before .before .before .before .before .pre .0) (c .before .before .before .before .before .before .pre .4) (c .before .before .before .before .before .before .pre .5) (c .before .before .before .before .before .before .pre .6) (c .before .before .before .before .before .before .pre .7) (c .before .before .before .before .before .loop .inv) (rw (c .enum-told2 .given .1) at (c .before .before .before .one-round .ensures .0)), turn-kept (c .before .before .before .before .before .before .pre .0) (c .before .before .before .before .before .before .pre .4) (c .before .before .before .before .before .before .pre .5) (c .before .before .before .before .before .before .pre .6) (c .before .before .before .before .before .before .pre .7) (c .before .before .before .before .before .loop .inv) (c .before .before .before .one-round .ensures .1))
+returns-2 c = (turn-over (c .before .before .before .before .before .before .pre .0) (c .before .before .before .before .before .before .pre .3) (c .before .before .before .before .before .before .pre .4) (c .before .before .before .before .before .before .pre .5) (c .before .before .before .before .before .loop .inv) (rw (c .enum-told2 .given .1) at (c .before .before .before .one-round .ensures .0)), turn-kept (c .before .before .before .before .before .before .pre .0) (c .before .before .before .before .before .before .pre .3) (c .before .before .before .before .before .before .pre .4) (c .before .before .before .before .before .before .pre .5) (c .before .before .before .before .before .loop .inv) (c .before .before .before .one-round .ensures .1))
 
 pub all-rounds-spec : {M : Type 1} → statement M
 all-rounds-spec =

@@ -1,6 +1,6 @@
+use Rattle.list.proofs.Slots.{list-there, still-source}
 use Rattle.list.proofs.Answers.{listing, band-kept, band-alone, kept-both, kept-neither, sound-band}
 use Rattle.list.proofs.Puts.{holds-same}
-use Rattle.list.proofs.Slots.{list-there}
 use Rattle.list.specs.Slots.{listAt, Sound, SoundBand}
 use Rattle.list.specs.Operators.{banded, pairs, Meet}
 use Rattle.list.specs.Insert.{insert-each}
@@ -28,22 +28,18 @@ unfolding banded listAt
 returns c = (rw (c .enum-told .given .1) (record { list = []; value = refl; holds = holds-same _ _ 0 (omega arith) }), kept-neither _ _ _)
 
 write-zone-requires : tie.Need-write-zone-requires
-write-zone-requires c κs = (omega arith, ranged (rw (c .before .before .limits .given .1) at (c .before .before .before .before .pre .8)))
+write-zone-requires c κs = (omega arith, ranged (rw (c .before .before .limits .given .1) at (c .before .before .before .before .pre .6)))
 
 each-pair-requires : tie.Need-each-pair-requires
 each-pair-requires c κs =
     let z = c .before .before .before .before .before .limits .given .0 .0 in
-    let f = band-kept z _ _ (c .before .before .before .before .before .before .before .pre .2) (c .before .before .write-zone .ensures) in (
-      c .before .before .before .before .before .before .before .pre .0,
-      omega arith,
-      omega arith,
-      omega (arith, f .same-length),
-      omega (arith, f .same-length),
-      omega (arith, f .same-length),
+    let f = band-kept z _ _ (c .before .before .before .before .before .before .before .pre .1) (c .before .before .write-zone .ensures) in
+    let alone = band-alone z _ _ (c .before .before .before .before .before .before .before .pre .1) (c .before .before .write-zone .ensures) in (
+      still-source _ _ (c .before .before .before .before .before .before .before .pre .0) f (c .before .before .before .before .before .before .before .pre .5),
+      record { few = omega arith; room = omega (arith, f .same-length, c .before .before .before .before .before .before .before .pre .1); sound = subst Sound (sym alone) (sound-band (rw (c .before .before .before .before .before .limits .given .1) at (c .before .before .before .before .before .before .before .pre .6))) },
+      record { few = omega arith; room = omega (arith, f .same-length, c .before .before .before .before .before .before .before .pre .2) },
+      c .before .before .before .before .before .before .before .pre .3,
       c .before .before .before .before .before .before .before .pre .4,
-      c .before .before .before .before .before .before .before .pre .5,
-      subst Sound (sym (list-there (c .before .before .before .before .before .before .before .args .source) (c .before .before .before .before .before .before .before .args .n) f (c .before .before .before .before .before .before .before .pre .6) (c .before .before .before .before .before .before .before .pre .0))) (c .before .before .before .before .before .before .before .pre .7),
-      subst Sound (sym (band-alone z _ _ (c .before .before .before .before .before .before .before .pre .2) (c .before .before .write-zone .ensures))) (sound-band (rw (c .before .before .before .before .before .limits .given .1) at (c .before .before .before .before .before .before .before .pre .8))),
     )
 
 enum-known-count : tie.Need-enum-known-count
@@ -59,9 +55,9 @@ returns-2 : tie.Need-returns-2
 unfolding banded listAt
 returns-2 c =
     let z = c .before .before .before .before .before .before .before .before .before .limits .given .0 .0 in
-    let f = band-kept z _ _ (c .before .before .before .before .before .before .before .before .before .before .before .pre .2) (c .before .before .before .before .before .before .write-zone .ensures) in
+    let f = band-kept z _ _ (c .before .before .before .before .before .before .before .before .before .before .before .pre .1) (c .before .before .before .before .before .before .write-zone .ensures) in
     let e = rw (c .enum-told2 .given .1) at (c .before .before .before .each-pair .ensures .0) in
-    (rw (c .before .before .before .before .before .before .before .before .before .limits .given .1) (rw (list-there (c .before .before .before .before .before .before .before .before .before .before .before .args .source) (c .before .before .before .before .before .before .before .before .before .before .before .args .n) f (c .before .before .before .before .before .before .before .before .before .before .before .pre .6) (c .before .before .before .before .before .before .before .before .before .before .before .pre .0), band-alone z _ _ (c .before .before .before .before .before .before .before .before .before .before .before .pre .2) (c .before .before .before .before .before .before .write-zone .ensures)) at e), kept-both f (c .before .before .before .each-pair .ensures .1))
+    (rw (c .before .before .before .before .before .before .before .before .before .limits .given .1) (rw (list-there (c .before .before .before .before .before .before .before .before .before .before .before .args .source) (c .before .before .before .before .before .before .before .before .before .before .before .args .n) f (c .before .before .before .before .before .before .before .before .before .before .before .pre .5) (c .before .before .before .before .before .before .before .before .before .before .before .pre .0 .few), band-alone z _ _ (c .before .before .before .before .before .before .before .before .before .before .before .pre .1) (c .before .before .before .before .before .before .write-zone .ensures)) at e), kept-both f (c .before .before .before .each-pair .ensures .1))
 
 same-length-2 : tie.Need-same-length-2
 same-length-2 c = search needs
@@ -70,9 +66,9 @@ returns-3 : tie.Need-returns-3
 unfolding banded listAt
 returns-3 c =
     let z = c .before .before .before .before .before .before .before .before .before .before .limits .given .0 .0 in
-    let f = band-kept z _ _ (c .before .before .before .before .before .before .before .before .before .before .before .before .pre .2) (c .before .before .before .before .before .before .before .write-zone .ensures) in
+    let f = band-kept z _ _ (c .before .before .before .before .before .before .before .before .before .before .before .before .pre .1) (c .before .before .before .before .before .before .before .write-zone .ensures) in
     let e = listing (rw (c .before .count .given .1) at (c .before .before .before .before .each-pair .ensures .0)) in
-    (rw (c .before .before .before .before .before .before .before .before .before .before .limits .given .1) (rw (list-there (c .before .before .before .before .before .before .before .before .before .before .before .before .args .source) (c .before .before .before .before .before .before .before .before .before .before .before .before .args .n) f (c .before .before .before .before .before .before .before .before .before .before .before .before .pre .6) (c .before .before .before .before .before .before .before .before .before .before .before .before .pre .0), band-alone z _ _ (c .before .before .before .before .before .before .before .before .before .before .before .before .pre .2) (c .before .before .before .before .before .before .before .write-zone .ensures)) at e), kept-both f (c .before .before .before .before .each-pair .ensures .1))
+    (rw (c .before .before .before .before .before .before .before .before .before .before .limits .given .1) (rw (list-there (c .before .before .before .before .before .before .before .before .before .before .before .before .args .source) (c .before .before .before .before .before .before .before .before .before .before .before .before .args .n) f (c .before .before .before .before .before .before .before .before .before .before .before .before .pre .5) (c .before .before .before .before .before .before .before .before .before .before .before .before .pre .0 .few), band-alone z _ _ (c .before .before .before .before .before .before .before .before .before .before .before .before .pre .1) (c .before .before .before .before .before .before .before .write-zone .ensures)) at e), kept-both f (c .before .before .before .before .each-pair .ensures .1))
 
 pub band-spec : {M : Type 1} → statement M
 band-spec =

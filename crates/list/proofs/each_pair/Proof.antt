@@ -1,6 +1,6 @@
+use Rattle.list.proofs.Slots.{kept-trans, list-there, still-source, still-slot}
 use Rattle.list.proofs.Growing.{Going, going-start, going-same, going-on, going-over, going-end, going-pair, all-left, sound-there}
 use Rattle.list.proofs.Scan.{nothing-left}
-use Rattle.list.proofs.Slots.{kept-trans, list-there}
 use Rattle.list.specs.Slots.{listAt, Sound}
 use Rattle.list.specs.Operators.{apply, pairs}
 use Rattle.list.specs.Insert.{insert-each}
@@ -24,7 +24,7 @@ abbrev μ-loop : tie.MeasureT-loop
 μ-loop words₀ op left n right m target count changed k₀ mark₀ i₀ words k mark i = n - i
 
 loop-holds : tie.Need-loop-holds Inv-loop μ-loop
-loop-holds c = (omega arith, going-same (ap (λ (A : List Zone). pairs (c .args .op) A (listAt (c .args .words .now) (c .args .right) (c .args .m))) (sym (all-left _ _ _))) (going-start _ _ _ _ _ (c .pre .2)))
+loop-holds c = (omega arith, going-same (ap (λ (A : List Zone). pairs (c .args .op) A (listAt (c .args .words .now) (c .args .right) (c .args .m))) (sym (all-left _ _ _))) (going-start _ _ _ _ _ (c .pre .2 .few)))
 
 mul-read-zone : tie.Need-mul-read-zone Inv-loop μ-loop
 mul-read-zone c = omega arith
@@ -37,13 +37,10 @@ read-zone-requires c κs = omega (arith, c .before .before .loop .inv .1 .frame 
 
 each-right-requires : tie.Need-each-right-requires Inv-loop μ-loop
 each-right-requires c κs = (
-  c .before .before .before .before .before .pre .1,
-  c .before .before .before .before .loop .inv .1 .few,
-  omega (arith, c .before .before .before .before .loop .inv .1 .frame .same-length),
-  omega (arith, c .before .before .before .before .loop .inv .1 .frame .same-length),
-  c .before .before .before .before .before .pre .7,
-  sound-there (c .before .before .before .before .before .pre .8) (c .before .before .before .before .loop .inv .1 .frame) (c .before .before .before .before .before .pre .6) (c .before .before .before .loop-test .taken) (c .before .before .before .before .before .pre .0) (c .before .read-zone .ensures),
-  subst Sound (sym (list-there (c .before .before .before .before .before .args .right) (c .before .before .before .before .before .args .m) (c .before .before .before .before .loop .inv .1 .frame) (c .before .before .before .before .before .pre .7) (c .before .before .before .before .before .pre .1))) (c .before .before .before .before .before .pre .9),
+  still-source _ _ (c .before .before .before .before .before .pre .1) (c .before .before .before .before .loop .inv .1 .frame) (c .before .before .before .before .before .pre .4),
+  still-slot (c .before .before .before .before .before .pre .2) (c .before .before .before .before .loop .inv .1 .frame) (c .before .before .before .before .loop .inv .1 .few),
+  c .before .before .before .before .before .pre .4,
+  sound-there _ _ _ (c .before .before .before .before .before .pre .0) (c .before .before .before .before .loop .inv .1 .frame) (c .before .before .before .before .before .pre .3) (c .before .before .before .loop-test .taken) (c .before .read-zone .ensures),
 )
 
 enum-known-next : tie.Need-enum-known-next Inv-loop μ-loop
@@ -57,9 +54,9 @@ same-length c = c .before .before .before .each-right .ensures .1 .same-length �
 
 returns : tie.Need-returns Inv-loop μ-loop
 returns c =
-    let g = going-pair _ _ _ (c .before .before .before .before .before .before .before .loop-test .taken) (c .before .before .before .before .before .before .before .before .before .pre .0) (c .before .before .before .before .before .before .before .before .before .pre .6) (c .before .before .before .before .before .read-zone .ensures) (c .before .before .before .before .before .before .before .before .before .args .op) _ (c .before .before .before .before .before .before .before .before .loop .inv .1) in
+    let g = going-pair _ _ _ (c .before .before .before .before .before .before .before .loop-test .taken) (c .before .before .before .before .before .before .before .before .before .pre .0 .few) (c .before .before .before .before .before .before .before .before .before .pre .3) (c .before .before .before .before .before .read-zone .ensures) (c .before .before .before .before .before .before .before .before .before .args .op) _ (c .before .before .before .before .before .before .before .before .loop .inv .1) in
     let w = rw (c .enum-told .given .1) at (c .before .before .before .each-right .ensures .0) in
-    (going-over _ _ g (rw (list-there (c .before .before .before .before .before .before .before .before .before .args .right) (c .before .before .before .before .before .before .before .before .before .args .m) (c .before .before .before .before .before .before .before .before .loop .inv .1 .frame) (c .before .before .before .before .before .before .before .before .before .pre .7) (c .before .before .before .before .before .before .before .before .before .pre .1)) at w), kept-trans (c .before .before .before .before .before .before .before .before .loop .inv .1 .frame) (c .before .before .before .each-right .ensures .1))
+    (going-over _ _ g (rw (list-there (c .before .before .before .before .before .before .before .before .before .args .right) (c .before .before .before .before .before .before .before .before .before .args .m) (c .before .before .before .before .before .before .before .before .loop .inv .1 .frame) (c .before .before .before .before .before .before .before .before .before .pre .4) (c .before .before .before .before .before .before .before .before .before .pre .1 .few)) at w), kept-trans (c .before .before .before .before .before .before .before .before .loop .inv .1 .frame) (c .before .before .before .each-right .ensures .1))
 
 add-i : tie.Need-add-i Inv-loop μ-loop
 add-i c = omega arith
@@ -69,9 +66,9 @@ loop-less c = omega arith
 
 loop-again : tie.Need-loop-again Inv-loop μ-loop
 loop-again c =
-    let g = going-pair _ _ _ (c .before .before .before .before .before .before .before .before .loop-test .taken) (c .before .before .before .before .before .before .before .before .before .before .pre .0) (c .before .before .before .before .before .before .before .before .before .before .pre .6) (c .before .before .before .before .before .before .read-zone .ensures) (c .before .before .before .before .before .before .before .before .before .before .args .op) _ (c .before .before .before .before .before .before .before .before .before .loop .inv .1) in
+    let g = going-pair _ _ _ (c .before .before .before .before .before .before .before .before .loop-test .taken) (c .before .before .before .before .before .before .before .before .before .before .pre .0 .few) (c .before .before .before .before .before .before .before .before .before .before .pre .3) (c .before .before .before .before .before .before .read-zone .ensures) (c .before .before .before .before .before .before .before .before .before .before .args .op) _ (c .before .before .before .before .before .before .before .before .before .loop .inv .1) in
     let w = rw (c .before .next .given .1) at (c .before .before .before .before .each-right .ensures .0) in
-    (omega arith, going-on _ _ g (rw (list-there (c .before .before .before .before .before .before .before .before .before .before .args .right) (c .before .before .before .before .before .before .before .before .before .before .args .m) (c .before .before .before .before .before .before .before .before .before .loop .inv .1 .frame) (c .before .before .before .before .before .before .before .before .before .before .pre .7) (c .before .before .before .before .before .before .before .before .before .before .pre .1)) at w) (c .before .before .before .before .each-right .ensures .1))
+    (omega arith, going-on _ _ g (rw (list-there (c .before .before .before .before .before .before .before .before .before .before .args .right) (c .before .before .before .before .before .before .before .before .before .before .args .m) (c .before .before .before .before .before .before .before .before .before .loop .inv .1 .frame) (c .before .before .before .before .before .before .before .before .before .before .pre .4) (c .before .before .before .before .before .before .before .before .before .before .pre .1 .few)) at w) (c .before .before .before .before .each-right .ensures .1))
 
 same-length-2 : tie.Need-same-length-2 Inv-loop μ-loop
 same-length-2 c = c .before .loop .inv .1 .frame .same-length

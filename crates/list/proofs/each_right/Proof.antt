@@ -1,6 +1,6 @@
+use Rattle.list.proofs.Slots.{kept-trans, still-slot}
 use Rattle.list.proofs.Growing.{Going, going-start, going-same, going-past, going-on, going-over, going-end, going-next, all-left, sound-there, apply-sound}
 use Rattle.list.proofs.Scan.{nothing-left}
-use Rattle.list.proofs.Slots.{kept-trans}
 use Rattle.list.specs.Slots.{listAt}
 use Rattle.list.specs.Operators.{apply}
 use Rattle.list.specs.Insert.{insert-each}
@@ -26,7 +26,7 @@ abbrev μ-loop : tie.MeasureT-loop
 μ-loop words₀ op z right m target count changed n₀ mark₀ j₀ words n mark j = m - j
 
 loop-holds : tie.Need-loop-holds Inv-loop μ-loop
-loop-holds c = (omega arith, going-same (ap (map (apply (c .args .op) (c .args .z))) (sym (all-left _ _ _))) (going-start _ _ _ _ _ (c .pre .1)))
+loop-holds c = (omega arith, going-same (ap (map (apply (c .args .op) (c .args .z))) (sym (all-left _ _ _))) (going-start _ _ _ _ _ (c .pre .1 .few)))
 
 mul-read-zone : tie.Need-mul-read-zone Inv-loop μ-loop
 mul-read-zone c = omega arith
@@ -41,7 +41,7 @@ add-j : tie.Need-add-j Inv-loop μ-loop
 add-j c = omega arith
 
 apply-requires : tie.Need-apply-requires Inv-loop μ-loop
-apply-requires c κs = (ranged (c .before .before .before .before .pre .5), ranged (sound-there (c .before .before .before .before .pre .6) (c .before .before .before .loop .inv .1 .frame) (c .before .before .before .before .pre .4) (c .before .before .loop-test .taken) (c .before .before .before .before .pre .0) (c .read-zone .ensures)))
+apply-requires c κs = (ranged (c .before .before .before .before .pre .3), ranged (sound-there _ _ _ (c .before .before .before .before .pre .0) (c .before .before .before .loop .inv .1 .frame) (c .before .before .before .before .pre .2) (c .before .before .loop-test .taken) (c .read-zone .ensures)))
 
 enum-known-v : tie.Need-enum-known-v Inv-loop μ-loop
 enum-known-v c = search needs
@@ -53,13 +53,12 @@ loop-less : tie.Need-loop-less Inv-loop μ-loop
 loop-less c = omega arith
 
 loop-again : tie.Need-loop-again Inv-loop μ-loop
-loop-again c = (omega arith, going-past (going-next _ _ _ (c .before .before .before .before .before .loop-test .taken) (c .before .before .before .before .before .before .before .pre .0) (c .before .before .before .before .before .before .before .pre .4) (c .before .before .before .read-zone .ensures) (apply (c .before .before .before .before .before .before .before .args .op) (c .before .before .before .before .before .before .before .args .z)) (c .before .before .before .before .before .before .loop .inv .1) (sym (c .before .before .apply .ensures) ∙ c .enum-told .given .1)))
+loop-again c = (omega arith, going-past (going-next _ _ _ (c .before .before .before .before .before .loop-test .taken) (c .before .before .before .before .before .before .before .pre .0 .few) (c .before .before .before .before .before .before .before .pre .2) (c .before .before .before .read-zone .ensures) (apply (c .before .before .before .before .before .before .before .args .op) (c .before .before .before .before .before .before .before .args .z)) (c .before .before .before .before .before .before .loop .inv .1) (sym (c .before .before .apply .ensures) ∙ c .enum-told .given .1)))
 
 grow-requires : tie.Need-grow-requires Inv-loop μ-loop
 grow-requires c κs = (
-  c .before .before .before .before .before .before .before .before .loop .inv .1 .few,
-  omega (arith, c .before .before .before .before .before .before .before .before .loop .inv .1 .frame .same-length),
-  ranged (apply-sound (c .before .before .before .before .before .before .before .before .before .args .op) (c .before .before .before .before .before .before .before .before .before .args .z) (c .before .before .before .before .before .read-zone .result) (c .before .before .before .before .before .before .before .before .before .pre .5) (sound-there (c .before .before .before .before .before .before .before .before .before .pre .6) (c .before .before .before .before .before .before .before .before .loop .inv .1 .frame) (c .before .before .before .before .before .before .before .before .before .pre .4) (c .before .before .before .before .before .before .before .loop-test .taken) (c .before .before .before .before .before .before .before .before .before .pre .0) (c .before .before .before .before .before .read-zone .ensures)) (sym (c .before .before .before .before .apply .ensures) ∙ c .before .before .v .given .1)),
+  still-slot (c .before .before .before .before .before .before .before .before .before .pre .1) (c .before .before .before .before .before .before .before .before .loop .inv .1 .frame) (c .before .before .before .before .before .before .before .before .loop .inv .1 .few),
+  ranged (apply-sound (c .before .before .before .before .before .before .before .before .before .args .op) (c .before .before .before .before .before .before .before .before .before .args .z) (c .before .before .before .before .before .read-zone .result) (c .before .before .before .before .before .before .before .before .before .pre .3) (sound-there _ _ _ (c .before .before .before .before .before .before .before .before .before .pre .0) (c .before .before .before .before .before .before .before .before .loop .inv .1 .frame) (c .before .before .before .before .before .before .before .before .before .pre .2) (c .before .before .before .before .before .before .before .loop-test .taken) (c .before .before .before .before .before .read-zone .ensures)) (sym (c .before .before .before .before .apply .ensures) ∙ c .before .before .v .given .1)),
 )
 
 enum-known-k : tie.Need-enum-known-k Inv-loop μ-loop
@@ -73,7 +72,7 @@ same-length c = c .before .before .before .grow .ensures .1 .same-length ∙ c .
 
 returns : tie.Need-returns Inv-loop μ-loop
 returns c =
-    let g = going-next _ _ _ (c .before .before .before .before .before .before .before .before .before .before .before .loop-test .taken) (c .before .before .before .before .before .before .before .before .before .before .before .before .before .pre .0) (c .before .before .before .before .before .before .before .before .before .before .before .before .before .pre .4) (c .before .before .before .before .before .before .before .before .before .read-zone .ensures) (apply (c .before .before .before .before .before .before .before .before .before .before .before .before .before .args .op) (c .before .before .before .before .before .before .before .before .before .before .before .before .before .args .z)) (c .before .before .before .before .before .before .before .before .before .before .before .before .loop .inv .1) (sym (c .before .before .before .before .before .before .before .before .apply .ensures) ∙ c .before .before .before .before .before .before .v .given .1) in
+    let g = going-next _ _ _ (c .before .before .before .before .before .before .before .before .before .before .before .loop-test .taken) (c .before .before .before .before .before .before .before .before .before .before .before .before .before .pre .0 .few) (c .before .before .before .before .before .before .before .before .before .before .before .before .before .pre .2) (c .before .before .before .before .before .before .before .before .before .read-zone .ensures) (apply (c .before .before .before .before .before .before .before .before .before .before .before .before .before .args .op) (c .before .before .before .before .before .before .before .before .before .before .before .before .before .args .z)) (c .before .before .before .before .before .before .before .before .before .before .before .before .loop .inv .1) (sym (c .before .before .before .before .before .before .before .before .apply .ensures) ∙ c .before .before .before .before .before .before .v .given .1) in
     (going-over (zone (c .before .before .before .before .before .before .v .given .0 .0) ∷ []) _ g (rw (c .enum-told2 .given .1) at (c .before .before .before .grow .ensures .0)), kept-trans (c .before .before .before .before .before .before .before .before .before .before .before .before .loop .inv .1 .frame) (c .before .before .before .grow .ensures .1))
 
 loop-less-2 : tie.Need-loop-less-2 Inv-loop μ-loop
@@ -81,7 +80,7 @@ loop-less-2 c = omega arith
 
 loop-again-2 : tie.Need-loop-again-2 Inv-loop μ-loop
 loop-again-2 c =
-    let g = going-next _ _ _ (c .before .before .before .before .before .before .before .before .before .before .before .before .loop-test .taken) (c .before .before .before .before .before .before .before .before .before .before .before .before .before .before .pre .0) (c .before .before .before .before .before .before .before .before .before .before .before .before .before .before .pre .4) (c .before .before .before .before .before .before .before .before .before .before .read-zone .ensures) (apply (c .before .before .before .before .before .before .before .before .before .before .before .before .before .before .args .op) (c .before .before .before .before .before .before .before .before .before .before .before .before .before .before .args .z)) (c .before .before .before .before .before .before .before .before .before .before .before .before .before .loop .inv .1) (sym (c .before .before .before .before .before .before .before .before .before .apply .ensures) ∙ c .before .before .before .before .before .before .before .v .given .1) in
+    let g = going-next _ _ _ (c .before .before .before .before .before .before .before .before .before .before .before .before .loop-test .taken) (c .before .before .before .before .before .before .before .before .before .before .before .before .before .before .pre .0 .few) (c .before .before .before .before .before .before .before .before .before .before .before .before .before .before .pre .2) (c .before .before .before .before .before .before .before .before .before .before .read-zone .ensures) (apply (c .before .before .before .before .before .before .before .before .before .before .before .before .before .before .args .op) (c .before .before .before .before .before .before .before .before .before .before .before .before .before .before .args .z)) (c .before .before .before .before .before .before .before .before .before .before .before .before .before .loop .inv .1) (sym (c .before .before .before .before .before .before .before .before .before .apply .ensures) ∙ c .before .before .before .before .before .before .before .v .given .1) in
     (omega arith, going-on (zone (c .before .before .before .before .before .before .before .v .given .0 .0) ∷ []) _ g (rw (c .before .k .given .1) at (c .before .before .before .before .grow .ensures .0)) (c .before .before .before .before .grow .ensures .1))
 
 same-length-2 : tie.Need-same-length-2 Inv-loop μ-loop

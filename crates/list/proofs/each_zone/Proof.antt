@@ -1,6 +1,6 @@
+use Rattle.list.proofs.Slots.{kept-trans, still-slot}
 use Rattle.list.proofs.Growing.{Going, going-start, going-same, going-on, going-over, going-end, going-next, all-left, sound-there}
 use Rattle.list.proofs.Scan.{nothing-left}
-use Rattle.list.proofs.Slots.{kept-trans}
 use Rattle.list.specs.Slots.{listAt}
 use Rattle.list.specs.Insert.{insert-each}
 use Rattle.zone.proofs.Laws.{ranged}
@@ -24,7 +24,7 @@ abbrev μ-loop : tie.MeasureT-loop
 μ-loop words₀ source n target count changed k₀ mark₀ i₀ words k mark i = n - i
 
 loop-holds : tie.Need-loop-holds Inv-loop μ-loop
-loop-holds c = (omega arith, going-same (ap (map zone) (sym (all-left _ _ _))) (going-start _ _ _ _ _ (c .pre .1)))
+loop-holds c = (omega arith, going-same (ap (map zone) (sym (all-left _ _ _))) (going-start _ _ _ _ _ (c .pre .1 .few)))
 
 mul-read-zone : tie.Need-mul-read-zone Inv-loop μ-loop
 mul-read-zone c = omega arith
@@ -36,11 +36,7 @@ read-zone-requires : tie.Need-read-zone-requires Inv-loop μ-loop
 read-zone-requires c κs = omega (arith, c .before .before .loop .inv .1 .frame .same-length)
 
 grow-requires : tie.Need-grow-requires Inv-loop μ-loop
-grow-requires c κs = (
-  c .before .before .before .before .loop .inv .1 .few,
-  omega (arith, c .before .before .before .before .loop .inv .1 .frame .same-length),
-  ranged (sound-there (c .before .before .before .before .before .pre .5) (c .before .before .before .before .loop .inv .1 .frame) (c .before .before .before .before .before .pre .4) (c .before .before .before .loop-test .taken) (c .before .before .before .before .before .pre .0) (c .before .read-zone .ensures)),
-)
+grow-requires c κs = (still-slot (c .before .before .before .before .before .pre .1) (c .before .before .before .before .loop .inv .1 .frame) (c .before .before .before .before .loop .inv .1 .few), ranged (sound-there _ _ _ (c .before .before .before .before .before .pre .0) (c .before .before .before .before .loop .inv .1 .frame) (c .before .before .before .before .before .pre .2) (c .before .before .before .loop-test .taken) (c .before .read-zone .ensures)))
 
 enum-known-next : tie.Need-enum-known-next Inv-loop μ-loop
 enum-known-next c = search needs
@@ -53,7 +49,7 @@ same-length c = c .before .before .before .grow .ensures .1 .same-length ∙ c .
 
 returns : tie.Need-returns Inv-loop μ-loop
 returns c =
-    let g = going-next _ _ _ (c .before .before .before .before .before .before .before .loop-test .taken) (c .before .before .before .before .before .before .before .before .before .pre .0) (c .before .before .before .before .before .before .before .before .before .pre .4) (c .before .before .before .before .before .read-zone .ensures) zone (c .before .before .before .before .before .before .before .before .loop .inv .1) refl in
+    let g = going-next _ _ _ (c .before .before .before .before .before .before .before .loop-test .taken) (c .before .before .before .before .before .before .before .before .before .pre .0 .few) (c .before .before .before .before .before .before .before .before .before .pre .2) (c .before .before .before .before .before .read-zone .ensures) zone (c .before .before .before .before .before .before .before .before .loop .inv .1) refl in
     (going-over (zone (c .before .before .before .before .before .read-zone .result) ∷ []) _ g (rw (c .enum-told .given .1) at (c .before .before .before .grow .ensures .0)), kept-trans (c .before .before .before .before .before .before .before .before .loop .inv .1 .frame) (c .before .before .before .grow .ensures .1))
 
 add-i : tie.Need-add-i Inv-loop μ-loop
@@ -64,7 +60,7 @@ loop-less c = omega arith
 
 loop-again : tie.Need-loop-again Inv-loop μ-loop
 loop-again c =
-    let g = going-next _ _ _ (c .before .before .before .before .before .before .before .before .loop-test .taken) (c .before .before .before .before .before .before .before .before .before .before .pre .0) (c .before .before .before .before .before .before .before .before .before .before .pre .4) (c .before .before .before .before .before .before .read-zone .ensures) zone (c .before .before .before .before .before .before .before .before .before .loop .inv .1) refl in
+    let g = going-next _ _ _ (c .before .before .before .before .before .before .before .before .loop-test .taken) (c .before .before .before .before .before .before .before .before .before .before .pre .0 .few) (c .before .before .before .before .before .before .before .before .before .before .pre .2) (c .before .before .before .before .before .before .read-zone .ensures) zone (c .before .before .before .before .before .before .before .before .before .loop .inv .1) refl in
     (omega arith, going-on (zone (c .before .before .before .before .before .before .read-zone .result) ∷ []) _ g (rw (c .before .next .given .1) at (c .before .before .before .before .grow .ensures .0)) (c .before .before .before .before .grow .ensures .1))
 
 same-length-2 : tie.Need-same-length-2 Inv-loop μ-loop

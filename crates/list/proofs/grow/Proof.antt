@@ -25,7 +25,7 @@ same-length c = search needs
 returns : tie.Need-returns
 returns c =
     let a = rw (c .enum-told .given .1) at (c .before .before .before .insert .ensures) in
-    (grown (c .before .before .before .before .before .args .z) _ _ _ _ (c .before .before .before .before .before .args .changed) (c .before .before .before .before .before .pre .0) Away a, grown-kept (c .before .before .before .before .before .args .z) _ _ _ _ (c .before .before .before .before .before .args .changed) (c .before .before .before .before .before .pre .0) Away a)
+    (grown (c .before .before .before .before .before .args .z) _ _ _ _ (c .before .before .before .before .before .args .changed) (c .before .before .before .before .before .pre .0 .few) Away a, grown-kept (c .before .before .before .before .before .args .z) _ _ _ _ (c .before .before .before .before .before .args .changed) (c .before .before .before .before .before .pre .0 .few) Away a)
 
 same-length-2 : tie.Need-same-length-2
 same-length-2 c = search needs
@@ -33,7 +33,7 @@ same-length-2 c = search needs
 returns-2 : tie.Need-returns-2
 returns-2 c =
     let a = rw (c .before .n .given .1) at (c .before .before .before .before .insert .ensures) in
-    (grown (c .before .before .before .before .before .before .args .z) _ _ _ _ (c .before .before .before .before .before .before .args .changed) (c .before .before .before .before .before .before .pre .0) (Placed (c .before .n .given .0 .0)) a, grown-kept (c .before .before .before .before .before .before .args .z) _ _ _ _ (c .before .before .before .before .before .before .args .changed) (c .before .before .before .before .before .before .pre .0) (Placed (c .before .n .given .0 .0)) a)
+    (grown (c .before .before .before .before .before .before .args .z) _ _ _ _ (c .before .before .before .before .before .before .args .changed) (c .before .before .before .before .before .before .pre .0 .few) (Placed (c .before .n .given .0 .0)) a, grown-kept (c .before .before .before .before .before .before .args .z) _ _ _ _ (c .before .before .before .before .before .before .args .changed) (c .before .before .before .before .before .before .pre .0 .few) (Placed (c .before .n .given .0 .0)) a)
 
 same-length-3 : tie.Need-same-length-3
 same-length-3 c = search needs
@@ -41,7 +41,7 @@ same-length-3 c = search needs
 returns-3 : tie.Need-returns-3
 returns-3 c =
     let a = rw (c .enum-told2 .given .1) at (c .before .before .before .insert .ensures) in
-    (grown (c .before .before .before .before .before .args .z) _ _ _ _ (c .before .before .before .before .before .args .changed) (c .before .before .before .before .before .pre .0) Full a, grown-kept (c .before .before .before .before .before .args .z) _ _ _ _ (c .before .before .before .before .before .args .changed) (c .before .before .before .before .before .pre .0) Full a)
+    (grown (c .before .before .before .before .before .args .z) _ _ _ _ (c .before .before .before .before .before .args .changed) (c .before .before .before .before .before .pre .0 .few) Full a, grown-kept (c .before .before .before .before .before .args .z) _ _ _ _ (c .before .before .before .before .before .args .changed) (c .before .before .before .before .before .pre .0 .few) Full a)
 
 pub grow-spec : {M : Type 1} → statement M
 grow-spec =

@@ -66,7 +66,7 @@ returns-3 : tie.Need-returns-3
 returns-3 c =
     let w = held (c .before .before .before .before .before .before .before .before .before .before .before .before .before .before .before .args .z) _ (c .before .before .before .before .before .before .before .before .before .before .before .before .before .write-zone .ensures) (omega arith) in
     let e = rw w at (c .before .before .before .before .before .before .before .before .before .covered .ensures) in
-    placement _ _ _ _ (sym e ∙ c .before .before .before .before .before .before .before .before .if1 .left) (rw w at (c .before .before .before .before .before .remove-inside .ensures .0)) (c .before .before .before .before .before .remove-inside .ensures .1) (c .before .before .before .if2 .left) (c .before .before .before .before .before .before .before .before .before .before .before .before .before .before .before .pre .1) (c .before .write-zone2 .ensures)
+    placement _ _ _ _ (sym e ∙ c .before .before .before .before .before .before .before .before .if1 .left) (rw w at (c .before .before .before .before .before .remove-inside .ensures .0)) (c .before .before .before .before .before .remove-inside .ensures .1) (c .before .before .before .if2 .left) (c .before .before .before .before .before .before .before .before .before .before .before .before .before .before .before .pre .0 .room) (c .before .write-zone2 .ensures)
 
 pub insert-spec : {M : Type 1} → statement M
 insert-spec =

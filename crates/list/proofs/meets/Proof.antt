@@ -1,3 +1,4 @@
+use native.Mathlib.Omega.{arith}
 use Rattle.list.proofs.Answers.{listing}
 use Rattle.list.specs.Slots.{listAt}
 use Rattle.list.specs.Operators.{meets}
@@ -9,7 +10,7 @@ use Rattle.list.proofs.meets.Lts as lts
 use Rattle.list.proofs.each_pair.Reads as each-pair-reads
 
 each-pair-requires : tie.Need-each-pair-requires
-each-pair-requires c κs = search needs
+each-pair-requires c κs = (c .before .pre .0, c .before .pre .1, record { few = omega arith; room = c .before .pre .2 }, c .before .pre .3, c .before .pre .4)
 
 enum-known-count : tie.Need-enum-known-count
 enum-known-count c = search needs

@@ -1,5 +1,5 @@
+use Rattle.list.proofs.Slots.{kept-trans, still-source}
 use Rattle.list.proofs.Answers.{copy-kept, copy-order, round-is, round-changes, round-same}
-use Rattle.list.proofs.Slots.{kept-trans, list-there, listAt-copied}
 use Rattle.list.specs.Slots.{listAt, Sound, Disjoint}
 use native.Mathlib.Omega.{arith}
 use Prim.Native.Nat.{_+_, _*_, _≤_}
@@ -17,22 +17,12 @@ mul-copy-words : tie.Need-mul-copy-words
 mul-copy-words c = search needs
 
 copy-words-requires : tie.Need-copy-words-requires
-copy-words-requires c κs = (omega arith, omega arith, copy-order (c .before .pre .5) (c .before .pre .0))
+copy-words-requires c κs = (omega arith, omega arith, copy-order (c .before .pre .3) (c .before .pre .0 .few))
 
 each-pair-requires : tie.Need-each-pair-requires
 each-pair-requires c κs =
-    let f = copy-kept (c .before .before .before .before .pre .0) (c .before .before .copy-words .ensures) in (
-      c .before .before .before .before .pre .0,
-      c .before .before .before .before .pre .1,
-      c .before .before .before .before .pre .0,
-      omega (arith, f .same-length),
-      omega (arith, f .same-length),
-      omega (arith, f .same-length),
-      c .before .before .before .before .pre .5,
-      c .before .before .before .before .pre .6,
-      subst Sound (sym (list-there (c .before .before .before .before .args .list) (c .before .before .before .before .args .n) f (c .before .before .before .before .pre .5) (c .before .before .before .before .pre .0))) (c .before .before .before .before .pre .7),
-      subst Sound (sym (list-there (c .before .before .before .before .args .inner) (c .before .before .before .before .args .m) f (c .before .before .before .before .pre .6) (c .before .before .before .before .pre .1))) (c .before .before .before .before .pre .8),
-    )
+    let f = copy-kept (c .before .before .before .before .pre .0 .few) (c .before .before .copy-words .ensures) in
+    (still-source _ _ (c .before .before .before .before .pre .0) f (c .before .before .before .before .pre .3), still-source _ _ (c .before .before .before .before .pre .1) f (c .before .before .before .before .pre .4), record { few = c .before .before .before .before .pre .0 .few; room = omega (arith, f .same-length, c .before .before .before .before .pre .2) }, c .before .before .before .before .pre .3, c .before .before .before .before .pre .4)
 
 enum-known-count : tie.Need-enum-known-count
 enum-known-count c = search needs
@@ -44,19 +34,19 @@ same-length : tie.Need-same-length
 same-length c = search needs
 
 returns : tie.Need-returns
-returns c = (sym (round-is (c .before .before .before .before .before .before .before .before .pre .0) (c .before .before .before .before .before .before .before .before .pre .1) (c .before .before .before .before .before .before .copy-words .ensures) (c .before .before .before .before .before .before .before .before .pre .5) (c .before .before .before .before .before .before .before .before .pre .6)) ∙ rw (c .enum-told .given .1) at (c .before .before .before .each-pair .ensures .0), kept-trans (copy-kept (c .before .before .before .before .before .before .before .before .pre .0) (c .before .before .before .before .before .before .copy-words .ensures)) (c .before .before .before .each-pair .ensures .1))
+returns c = (sym (round-is (c .before .before .before .before .before .before .before .before .pre .0 .few) (c .before .before .before .before .before .before .before .before .pre .1 .few) (c .before .before .before .before .before .before .copy-words .ensures) (c .before .before .before .before .before .before .before .before .pre .3) (c .before .before .before .before .before .before .before .before .pre .4)) ∙ rw (c .enum-told .given .1) at (c .before .before .before .each-pair .ensures .0), kept-trans (copy-kept (c .before .before .before .before .before .before .before .before .pre .0 .few) (c .before .before .before .before .before .before .copy-words .ensures)) (c .before .before .before .each-pair .ensures .1))
 
 same-length-2 : tie.Need-same-length-2
 same-length-2 c = search needs
 
 returns-2 : tie.Need-returns-2
-returns-2 c = (round-changes (c .before .before .before .before .before .before .before .before .before .before .pre .0) (c .before .before .before .before .before .before .before .before .before .before .pre .1) (c .before .before .before .before .before .before .before .before .copy-words .ensures) (c .before .before .before .before .before .before .before .before .before .before .pre .5) (c .before .before .before .before .before .before .before .before .before .before .pre .6) (rw (c .before .before .count .given .1) at (c .before .before .before .before .before .each-pair .ensures .0)) (c .if1 .taken), kept-trans (copy-kept (c .before .before .before .before .before .before .before .before .before .before .pre .0) (c .before .before .before .before .before .before .before .before .copy-words .ensures)) (c .before .before .before .before .before .each-pair .ensures .1))
+returns-2 c = (round-changes (c .before .before .before .before .before .before .before .before .before .before .pre .0 .few) (c .before .before .before .before .before .before .before .before .before .before .pre .1 .few) (c .before .before .before .before .before .before .before .before .copy-words .ensures) (c .before .before .before .before .before .before .before .before .before .before .pre .3) (c .before .before .before .before .before .before .before .before .before .before .pre .4) (rw (c .before .before .count .given .1) at (c .before .before .before .before .before .each-pair .ensures .0)) (c .if1 .taken), kept-trans (copy-kept (c .before .before .before .before .before .before .before .before .before .before .pre .0 .few) (c .before .before .before .before .before .before .before .before .copy-words .ensures)) (c .before .before .before .before .before .each-pair .ensures .1))
 
 same-length-3 : tie.Need-same-length-3
 same-length-3 c = search needs
 
 returns-3 : tie.Need-returns-3
-returns-3 c = (round-same (c .before .before .before .before .before .before .before .before .before .before .pre .0) (c .before .before .before .before .before .before .before .before .before .before .pre .1) (c .before .before .before .before .before .before .before .before .copy-words .ensures) (c .before .before .before .before .before .before .before .before .before .before .pre .5) (c .before .before .before .before .before .before .before .before .before .before .pre .6) (rw (c .before .before .count .given .1) at (c .before .before .before .before .before .each-pair .ensures .0)) (c .if1 .left), kept-trans (copy-kept (c .before .before .before .before .before .before .before .before .before .before .pre .0) (c .before .before .before .before .before .before .before .before .copy-words .ensures)) (c .before .before .before .before .before .each-pair .ensures .1))
+returns-3 c = (round-same (c .before .before .before .before .before .before .before .before .before .before .pre .0 .few) (c .before .before .before .before .before .before .before .before .before .before .pre .1 .few) (c .before .before .before .before .before .before .before .before .copy-words .ensures) (c .before .before .before .before .before .before .before .before .before .before .pre .3) (c .before .before .before .before .before .before .before .before .before .before .pre .4) (rw (c .before .before .count .given .1) at (c .before .before .before .before .before .each-pair .ensures .0)) (c .if1 .left), kept-trans (copy-kept (c .before .before .before .before .before .before .before .before .before .before .pre .0 .few) (c .before .before .before .before .before .before .before .before .copy-words .ensures)) (c .before .before .before .before .before .each-pair .ensures .1))
 
 pub one-round-spec : {M : Type 1} → statement M
 one-round-spec =

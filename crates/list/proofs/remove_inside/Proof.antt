@@ -18,7 +18,7 @@ loop-holds : tie.Need-loop-holds Inv-loop μ-loop
 loop-holds c = sift-start _ _ _ _
 
 keep-outside-requires : tie.Need-keep-outside-requires Inv-loop μ-loop
-keep-outside-requires c κs = (c .before .before .loop .inv .fewer, omega arith, omega (arith, c .before .before .loop .inv .frame .same-length), c .before .before .before .pre .2)
+keep-outside-requires c κs = (c .before .before .loop .inv .fewer, omega arith, omega (arith, c .before .before .loop .inv .frame .same-length), c .before .before .before .pre .1)
 
 add-i : tie.Need-add-i Inv-loop μ-loop
 add-i c = omega arith
@@ -27,13 +27,13 @@ loop-less : tie.Need-loop-less Inv-loop μ-loop
 loop-less c = omega arith
 
 loop-again : tie.Need-loop-again Inv-loop μ-loop
-loop-again c = sift-step (c .before .before .before .before .loop .inv) (c .before .before .before .loop-test .taken) (c .before .before .before .before .before .pre .0) (c .before .keep-outside .ensures)
+loop-again c = sift-step (c .before .before .before .before .loop .inv) (c .before .before .before .loop-test .taken) (c .before .before .before .before .before .pre .0 .few) (c .before .keep-outside .ensures)
 
 same-length : tie.Need-same-length Inv-loop μ-loop
 same-length c = c .before .loop .inv .frame .same-length
 
 returns : tie.Need-returns Inv-loop μ-loop
-returns c = (sift-end (c .before .loop .inv) (c .loop-test .left) (c .before .before .pre .0), c .before .loop .inv .frame)
+returns c = (sift-end (c .before .loop .inv) (c .loop-test .left) (c .before .before .pre .0 .few), c .before .loop .inv .frame)
 
 pub remove-inside-spec : {M : Type 1} → statement M
 remove-inside-spec =

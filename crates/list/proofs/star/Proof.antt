@@ -1,5 +1,5 @@
+use Rattle.list.proofs.Slots.{list-there, listAt-copied, still-source}
 use Rattle.list.proofs.Answers.{copy-kept, copy-order, kept-one, both-trans, brought, ending-room, ending-apart, star-no-room, star-closed}
-use Rattle.list.proofs.Slots.{list-there, listAt-copied}
 use Rattle.list.specs.Slots.{listAt, Sound, KeptBoth}
 use Rattle.list.specs.Star.{Rounds, finished, burst, over-round}
 use Rattle.zone.proofs.Laws.{ranged, ranged-more, proper-diagonal}
@@ -24,20 +24,18 @@ mul-copy-words : tie.Need-mul-copy-words
 mul-copy-words c = search needs
 
 copy-words-requires : tie.Need-copy-words-requires
-copy-words-requires c κs = (omega arith, omega arith, copy-order (c .before .pre .4) (c .before .pre .0))
+copy-words-requires c κs = (omega arith, omega arith, copy-order (c .before .pre .3) (c .before .pre .0 .few))
 
 all-rounds-requires : tie.Need-all-rounds-requires
 all-rounds-requires c κs =
-    let f = copy-kept (c .before .before .before .before .pre .0) (c .before .before .copy-words .ensures) in
-    let same = list-there (c .before .before .before .before .args .inner) (c .before .before .before .before .args .m) f (c .before .before .before .before .pre .4) (c .before .before .before .before .pre .0) in (
-      c .before .before .before .before .pre .0,
-      omega (arith, f .same-length),
-      omega (arith, f .same-length),
-      omega (arith, f .same-length),
+    let f = copy-kept (c .before .before .before .before .pre .0 .few) (c .before .before .copy-words .ensures) in
+    let same = list-there (c .before .before .before .before .args .inner) (c .before .before .before .before .args .m) f (c .before .before .before .before .pre .3) (c .before .before .before .before .pre .0 .few) in (
+      still-source _ _ (c .before .before .before .before .pre .0) f (c .before .before .before .before .pre .3),
+      omega (arith, f .same-length, c .before .before .before .before .pre .1),
+      omega (arith, f .same-length, c .before .before .before .before .pre .2),
+      c .before .before .before .before .pre .3,
       c .before .before .before .before .pre .4,
       c .before .before .before .before .pre .5,
-      c .before .before .before .before .pre .6,
-      subst Sound (sym same) (c .before .before .before .before .pre .7),
       listAt-copied (c .before .before .before .before .args .m) (c .before .before .copy-words .ensures) ∙ sym same,
     )
 
@@ -52,19 +50,19 @@ same-length c = search needs
 
 returns : tie.Need-returns
 returns c =
-    let f = copy-kept (c .before .before .before .before .before .before .before .before .pre .0) (c .before .before .before .before .before .before .copy-words .ensures) in
-    let same = list-there (c .before .before .before .before .before .before .before .before .args .inner) (c .before .before .before .before .before .before .before .before .args .m) f (c .before .before .before .before .before .before .before .before .pre .4) (c .before .before .before .before .before .before .before .before .pre .0) in
+    let f = copy-kept (c .before .before .before .before .before .before .before .before .pre .0 .few) (c .before .before .before .before .before .before .copy-words .ensures) in
+    let same = list-there (c .before .before .before .before .before .before .before .before .args .inner) (c .before .before .before .before .before .before .before .before .args .m) f (c .before .before .before .before .before .before .before .before .pre .3) (c .before .before .before .before .before .before .before .before .pre .0 .few) in
     (over-round (subst (λ (I : List Zone). Rounds I I burst) same (rw (c .enum-told .given .1) at (c .before .before .before .all-rounds .ensures .0))), both-trans (kept-one f) (c .before .before .before .all-rounds .ensures .1))
 
 bring-requires : tie.Need-bring-requires
 bring-requires c κs =
-    let f = copy-kept (c .before .before .before .before .before .before .before .before .before .before .pre .0) (c .before .before .before .before .before .before .before .before .copy-words .ensures) in
-    let same = list-there (c .before .before .before .before .before .before .before .before .before .before .args .inner) (c .before .before .before .before .before .before .before .before .before .before .args .m) f (c .before .before .before .before .before .before .before .before .before .before .pre .4) (c .before .before .before .before .before .before .before .before .before .before .pre .0) in
+    let f = copy-kept (c .before .before .before .before .before .before .before .before .before .before .pre .0 .few) (c .before .before .before .before .before .before .before .before .copy-words .ensures) in
+    let same = list-there (c .before .before .before .before .before .before .before .before .before .before .args .inner) (c .before .before .before .before .before .before .before .before .before .before .args .m) f (c .before .before .before .before .before .before .before .before .before .before .pre .3) (c .before .before .before .before .before .before .before .before .before .before .pre .0 .few) in
     let w = rw (c .before .before .at .given .1) at (c .before .before .before .before .before .all-rounds .ensures .0) in (
       w .holds .few,
       ending-room (w .place) (omega (arith, f .same-length, c .before .before .before .before .before .all-rounds .ensures .1 .same-length)) (omega (arith, f .same-length, c .before .before .before .before .before .all-rounds .ensures .1 .same-length)),
       omega (arith, f .same-length, c .before .before .before .before .before .all-rounds .ensures .1 .same-length),
-      ending-apart (w .place) (c .before .before .before .before .before .before .before .before .before .before .pre .6),
+      ending-apart (w .place) (c .before .before .before .before .before .before .before .before .before .before .pre .5),
     )
 
 diagonal-requires : tie.Need-diagonal-requires
@@ -72,12 +70,10 @@ diagonal-requires c κs = (omega arith, omega arith)
 
 grow-requires : tie.Need-grow-requires
 grow-requires c κs =
-    let f = copy-kept (c .before .before .before .before .before .before .before .before .before .before .before .before .before .before .pre .0) (c .before .before .before .before .before .before .before .before .before .before .before .before .copy-words .ensures) in
-    let same = list-there (c .before .before .before .before .before .before .before .before .before .before .before .before .before .before .args .inner) (c .before .before .before .before .before .before .before .before .before .before .before .before .before .before .args .m) f (c .before .before .before .before .before .before .before .before .before .before .before .before .before .before .pre .4) (c .before .before .before .before .before .before .before .before .before .before .before .before .before .before .pre .0) in
+    let f = copy-kept (c .before .before .before .before .before .before .before .before .before .before .before .before .before .before .pre .0 .few) (c .before .before .before .before .before .before .before .before .before .before .before .before .copy-words .ensures) in
     let w = rw (c .before .before .before .before .before .before .at .given .1) at (c .before .before .before .before .before .before .before .before .before .all-rounds .ensures .0) in (
-      w .holds .few,
-      omega (arith, f .same-length, c .before .before .before .before .before .before .before .before .before .all-rounds .ensures .1 .same-length, c .before .before .before .bring .ensures .1 .same-length),
-      rw (c .diagonal .ensures) (ranged-more (c .before .before .before .before .before .before .before .before .before .before .before .before .before .before .pre .9) (ranged (proper-diagonal _ _ (c .before .before .before .before .before .before .before .before .before .before .before .before .before .before .pre .8)))),
+      record { few = w .holds .few; room = omega (arith, f .same-length, c .before .before .before .before .before .before .before .before .before .all-rounds .ensures .1 .same-length, c .before .before .before .bring .ensures .1 .same-length, c .before .before .before .before .before .before .before .before .before .before .before .before .before .before .pre .1) },
+      rw (c .diagonal .ensures) (ranged-more (c .before .before .before .before .before .before .before .before .before .before .before .before .before .before .pre .7) (ranged (proper-diagonal _ _ (c .before .before .before .before .before .before .before .before .before .before .before .before .before .before .pre .6)))),
     )
 
 enum-known-count : tie.Need-enum-known-count
@@ -91,8 +87,8 @@ same-length-2 c = search needs
 
 returns-2 : tie.Need-returns-2
 returns-2 c =
-    let f = copy-kept (c .before .before .before .before .before .before .before .before .before .before .before .before .before .before .before .before .before .before .pre .0) (c .before .before .before .before .before .before .before .before .before .before .before .before .before .before .before .before .copy-words .ensures) in
-    let same = list-there (c .before .before .before .before .before .before .before .before .before .before .before .before .before .before .before .before .before .before .args .inner) (c .before .before .before .before .before .before .before .before .before .before .before .before .before .before .before .before .before .before .args .m) f (c .before .before .before .before .before .before .before .before .before .before .before .before .before .before .before .before .before .before .pre .4) (c .before .before .before .before .before .before .before .before .before .before .before .before .before .before .before .before .before .before .pre .0) in
+    let f = copy-kept (c .before .before .before .before .before .before .before .before .before .before .before .before .before .before .before .before .before .before .pre .0 .few) (c .before .before .before .before .before .before .before .before .before .before .before .before .before .before .before .before .copy-words .ensures) in
+    let same = list-there (c .before .before .before .before .before .before .before .before .before .before .before .before .before .before .before .before .before .before .args .inner) (c .before .before .before .before .before .before .before .before .before .before .before .before .before .before .before .before .before .before .args .m) f (c .before .before .before .before .before .before .before .before .before .before .before .before .before .before .before .before .before .before .pre .3) (c .before .before .before .before .before .before .before .before .before .before .before .before .before .before .before .before .before .before .pre .0 .few) in
     let w = rw (c .before .before .before .before .before .before .before .before .before .before .at .given .1) at (c .before .before .before .before .before .before .before .before .before .before .before .before .before .all-rounds .ensures .0) in
     let r = subst (λ (I : List Zone). Rounds I I (finished (c .before .before .before .before .before .before .before .before .before .before .at .given .0 .1 .1 .0) (w .list))) same (w .value) in
     let h = brought (w .holds) (c .before .before .before .before .before .before .before .bring .ensures .0) in
@@ -104,8 +100,8 @@ same-length-3 c = search needs
 
 returns-3 : tie.Need-returns-3
 returns-3 c =
-    let f = copy-kept (c .before .before .before .before .before .before .before .before .before .before .before .before .before .before .before .before .before .before .before .pre .0) (c .before .before .before .before .before .before .before .before .before .before .before .before .before .before .before .before .before .copy-words .ensures) in
-    let same = list-there (c .before .before .before .before .before .before .before .before .before .before .before .before .before .before .before .before .before .before .before .args .inner) (c .before .before .before .before .before .before .before .before .before .before .before .before .before .before .before .before .before .before .before .args .m) f (c .before .before .before .before .before .before .before .before .before .before .before .before .before .before .before .before .before .before .before .pre .4) (c .before .before .before .before .before .before .before .before .before .before .before .before .before .before .before .before .before .before .before .pre .0) in
+    let f = copy-kept (c .before .before .before .before .before .before .before .before .before .before .before .before .before .before .before .before .before .before .before .pre .0 .few) (c .before .before .before .before .before .before .before .before .before .before .before .before .before .before .before .before .before .copy-words .ensures) in
+    let same = list-there (c .before .before .before .before .before .before .before .before .before .before .before .before .before .before .before .before .before .before .before .args .inner) (c .before .before .before .before .before .before .before .before .before .before .before .before .before .before .before .before .before .before .before .args .m) f (c .before .before .before .before .before .before .before .before .before .before .before .before .before .before .before .before .before .before .before .pre .3) (c .before .before .before .before .before .before .before .before .before .before .before .before .before .before .before .before .before .before .before .pre .0 .few) in
     let w = rw (c .before .before .before .before .before .before .before .before .before .before .before .at .given .1) at (c .before .before .before .before .before .before .before .before .before .before .before .before .before .before .all-rounds .ensures .0) in
     let r = subst (λ (I : List Zone). Rounds I I (finished (c .before .before .before .before .before .before .before .before .before .before .before .at .given .0 .1 .1 .0) (w .list))) same (w .value) in
     let h = brought (w .holds) (c .before .before .before .before .before .before .before .before .bring .ensures .0) in

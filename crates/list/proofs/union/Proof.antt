@@ -1,5 +1,5 @@
+use Rattle.list.proofs.Slots.{kept-trans, list-there, still-source}
 use Rattle.list.proofs.Answers.{union-left-over, union-right-over, union-listing}
-use Rattle.list.proofs.Slots.{kept-trans, list-there}
 use Rattle.list.specs.Slots.{listAt, Sound}
 use native.Mathlib.Omega.{arith}
 use mathlib.Core.Path.{_≡_, sym, subst}
@@ -11,7 +11,7 @@ use Rattle.list.proofs.union.Lts as lts
 use Rattle.list.proofs.each_zone.Reads as each-zone-reads
 
 each-zone-requires : tie.Need-each-zone-requires
-each-zone-requires c κs = search needs
+each-zone-requires c κs = (c .before .pre .0, record { few = omega arith; room = c .before .pre .2 }, c .before .pre .3)
 
 enum-known-k : tie.Need-enum-known-k
 enum-known-k c = search needs
@@ -29,14 +29,8 @@ returns c = (union-left-over _ _ (rw (c .enum-told .given .1) at (c .before .bef
 each-zone-requires-2 : tie.Need-each-zone-requires-2
 each-zone-requires-2 c κs =
     let g = rw (c .before .before .k .given .1) at (c .before .before .before .before .before .each-zone .ensures .0) in
-    let f = c .before .before .before .before .before .each-zone .ensures .1 in (
-      c .before .before .before .before .before .before .before .pre .1,
-      g .holds .few,
-      omega (arith, f .same-length),
-      omega (arith, f .same-length),
-      c .before .before .before .before .before .before .before .pre .6,
-      subst Sound (sym (list-there (c .before .before .before .before .before .before .before .args .right) (c .before .before .before .before .before .before .before .args .m) f (c .before .before .before .before .before .before .before .pre .6) (c .before .before .before .before .before .before .before .pre .1))) (c .before .before .before .before .before .before .before .pre .8),
-    )
+    let f = c .before .before .before .before .before .each-zone .ensures .1 in
+    (still-source _ _ (c .before .before .before .before .before .before .before .pre .1) f (c .before .before .before .before .before .before .before .pre .4), record { few = g .holds .few; room = omega (arith, f .same-length, c .before .before .before .before .before .before .before .pre .2) }, c .before .before .before .before .before .before .before .pre .4)
 
 enum-known-count : tie.Need-enum-known-count
 enum-known-count c = search needs
@@ -49,7 +43,7 @@ same-length-2 c = search needs
 
 returns-2 : tie.Need-returns-2
 returns-2 c = (
-  union-right-over _ _ _ _ _ _ (rw (c .before .before .before .before .before .before .k .given .1) at (c .before .before .before .before .before .before .before .before .before .each-zone .ensures .0)) _ (list-there (c .before .before .before .before .before .before .before .before .before .before .before .args .right) (c .before .before .before .before .before .before .before .before .before .before .before .args .m) (c .before .before .before .before .before .before .before .before .before .each-zone .ensures .1) (c .before .before .before .before .before .before .before .before .before .before .before .pre .6) (c .before .before .before .before .before .before .before .before .before .before .before .pre .1)) (rw (c .enum-told2 .given .1) at (c .before .before .before .each-zone2 .ensures .0)),
+  union-right-over _ _ _ _ _ _ (rw (c .before .before .before .before .before .before .k .given .1) at (c .before .before .before .before .before .before .before .before .before .each-zone .ensures .0)) _ (list-there (c .before .before .before .before .before .before .before .before .before .before .before .args .right) (c .before .before .before .before .before .before .before .before .before .before .before .args .m) (c .before .before .before .before .before .before .before .before .before .each-zone .ensures .1) (c .before .before .before .before .before .before .before .before .before .before .before .pre .4) (c .before .before .before .before .before .before .before .before .before .before .before .pre .1 .few)) (rw (c .enum-told2 .given .1) at (c .before .before .before .each-zone2 .ensures .0)),
   kept-trans (c .before .before .before .before .before .before .before .before .before .each-zone .ensures .1) (c .before .before .before .each-zone2 .ensures .1),
 )
 
@@ -58,7 +52,7 @@ same-length-3 c = search needs
 
 returns-3 : tie.Need-returns-3
 returns-3 c = (
-  union-listing _ _ _ _ _ _ (rw (c .before .before .before .before .before .before .before .k .given .1) at (c .before .before .before .before .before .before .before .before .before .before .each-zone .ensures .0)) _ (list-there (c .before .before .before .before .before .before .before .before .before .before .before .before .args .right) (c .before .before .before .before .before .before .before .before .before .before .before .before .args .m) (c .before .before .before .before .before .before .before .before .before .before .each-zone .ensures .1) (c .before .before .before .before .before .before .before .before .before .before .before .before .pre .6) (c .before .before .before .before .before .before .before .before .before .before .before .before .pre .1)) (rw (c .before .count .given .1) at (c .before .before .before .before .each-zone2 .ensures .0)),
+  union-listing _ _ _ _ _ _ (rw (c .before .before .before .before .before .before .before .k .given .1) at (c .before .before .before .before .before .before .before .before .before .before .each-zone .ensures .0)) _ (list-there (c .before .before .before .before .before .before .before .before .before .before .before .before .args .right) (c .before .before .before .before .before .before .before .before .before .before .before .before .args .m) (c .before .before .before .before .before .before .before .before .before .before .each-zone .ensures .1) (c .before .before .before .before .before .before .before .before .before .before .before .before .pre .4) (c .before .before .before .before .before .before .before .before .before .before .before .before .pre .1 .few)) (rw (c .before .count .given .1) at (c .before .before .before .before .each-zone2 .ensures .0)),
   kept-trans (c .before .before .before .before .before .before .before .before .before .before .each-zone .ensures .1) (c .before .before .before .before .each-zone2 .ensures .1),
 )
 

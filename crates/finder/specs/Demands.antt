@@ -1,0 +1,74 @@
+-- The three demands, each as one record, so that a contract can cite it.
+use mathlib.Core.Path.{_≡_}
+use mathlib.Core.Logic.{_↔_}
+use mathlib.Core.List.{List, [], _∷_, List·Memᴰ}
+use Prim.Native.Nat.{ℕ, _+_, _-_, _≤_, _<_}
+use lib.ListN.{length}
+use Rattle.zone.specs.Time.{Time}
+use Rattle.zone.specs.declared.Zone.{Zone}
+use Rattle.zone.specs.Zone.{In}
+use Rattle.list.specs.Pieces.{Pieces, Lies, AllProper}
+use Rattle.list.specs.Antichain.{Antichain}
+use Rattle.recording.specs.Reading.{ticks}
+use Rattle.recording.specs.Levels.{Shows}
+use Rattle.recording.specs.declared.Level.{Level}
+use Rattle.expression.specs.Expression.{Expression, star}
+use Rattle.expression.specs.Grammar.{Form, alternative}
+use Rattle.finder.specs.Satisfies.{Stretch, Satisfies}
+use Rattle.finder.specs.Lists.{repeated, Turns, Sum}
+use Rattle.finder.specs.Outcome.{
+  Outcome,
+  RecordingLength,
+  RecordingHead,
+  RecordingChange,
+  DrillLength,
+  DrillForm,
+  DrillLetter,
+  DrillRange,
+  DrillDepth,
+  ListFull,
+  returned,
+  Cause,
+  First,
+  NoCause,
+}
+
+-- Demand 1, of the outcome of a call: "Each is given when its cause holds and no earlier one does, and never otherwise. A drill is accepted
+-- where no cause holds"
+pub record Demand1 (bytes text : List ℕ) (answer work : ℕ) (o : Outcome) : Type 0 where
+  pub refuses : (p : Outcome) → 0 < returned p .number → (returned o .number ≡ returned p .number) ↔ First bytes text answer work p
+  pub accepts : (returned o .number ≡ 0) ↔ NoCause bytes text answer work
+
+-- Demand 2, of the zones listed: some zone holds a stretch inside 0..d exactly if it satisfies the drill; every zone is tight and inside
+-- 0..d, none is empty, none lies inside another
+pub record Demand2 (bytes text : List ℕ) (L : List Zone) : Type 0 where
+  pub drill : Expression
+  pub form : Form alternative text drill
+  pub exact : (x y : Time) → Stretch 0 (ticks bytes) x y → Lies L x y ↔ Satisfies (Shows bytes) drill x y
+  pub proper : AllProper 0 (ticks bytes) L
+  pub some : (z : Zone) → List·Memᴰ z L → (x : Time) × (y : Time) × In z x y
+  pub apart : Antichain L
+
+-- Demand 3, of one `*` whose part repeated is f: its rounds, the last included, are at most n + d, n the zones of the finished inner list;
+-- every satisfying stretch is cut into at most n + d consecutive pieces that each satisfy f
+pub record Bounded (Shows : ℕ → Level → ℕ → Type 0) (from to : ℕ) (f : Expression) : Type 0 where
+  pub rounds : ℕ
+  pub turns : Turns Shows from to f rounds
+  pub few : rounds ≤ length (turns .inner) + (to - from)
+  pub pieces : (x y : Time) → Stretch from to x y → Satisfies Shows (star f) x y
+      → (n : ℕ) × (n ≤ length (turns .inner) + (to - from)) × Pieces (λ s t. Satisfies Shows f s t) n x y
+
+-- Demand 3, of a recording, a drill and a total of rounds: every `*` written, and the sum over all of them
+pub record Demand3 (bytes text : List ℕ) (total : ℕ) : Type 0 where
+  pub drill : Expression
+  pub form : Form alternative text drill
+  pub each : (f : Expression) → List·Memᴰ f (repeated drill) → Bounded (Shows bytes) 0 (ticks bytes) f
+  pub sum : Sum (Turns (Shows bytes) 0 (ticks bytes)) (repeated drill) total
+
+-- the causes that recording and drill alone decide, 1 to 8 and 10; they ask nothing of the buffers
+abbrev pub inputs : List Outcome
+inputs =
+    RecordingLength ∷ RecordingHead ∷ RecordingChange ∷ DrillLength ∷ DrillForm ∷ DrillLetter ∷ DrillRange ∷ DrillDepth ∷ ListFull ∷ []
+
+abbrev pub NoInputCause : (bytes text : List ℕ) → Type 0
+NoInputCause bytes text = (p : Outcome) → List·Memᴰ p inputs → ¬ Cause bytes text 0 0 p
