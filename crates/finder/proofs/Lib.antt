@@ -9,3 +9,7 @@ pub mod Turned
 pub mod Answered
 pub mod Calls
 pub mod Demands
+pub mod Answers
+pub mod Letters
+pub mod Evaluator
+pub mod Buffers

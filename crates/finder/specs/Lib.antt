@@ -3,3 +3,4 @@ pub mod Satisfies
 pub mod Lists
 pub mod Outcome
 pub mod Demands
+pub mod Steps

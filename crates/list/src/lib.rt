@@ -453,7 +453,7 @@ fn all_rounds(words: &mut [i32], inner: usize, m: usize, first: usize, second: u
 }
 
 // Brings a list to its slot, where it stands in another.
-fn bring(words: &mut [i32], at: usize, n: usize, target: usize)
+pub fn bring(words: &mut [i32], at: usize, n: usize, target: usize)
     requires { ⌜ (n ≤ 128) × (at + 768 ≤ length (now words)) × (target + 768 ≤ length (now words)) × ((at ≡ target) ⊎ (Disjoint at target)) ⌝ }
     ensures list { λ _. ⌜ listAt (now (words .exit)) target n ≡ listAt (now (words .entry)) at n ⌝ }
     ensures kept { λ _. ⌜ Kept target 768 (now (words .entry)) (now (words .exit)) ⌝ }

@@ -1,0 +1,166 @@
+-- The evaluator meets its contract. The measure is the depth that is left. Assumes nothing.
+use mathlib.Core.Path.{sym, subst, _∙_}
+use mathlib.Core.Logic.{inl}
+use native.Mathlib.Omega.{arith}
+use borrow.Author.Needs.{needs}
+use Rattle.list.specs.Slots.{Sound}
+use Rattle.list.proofs.Slots.{kept-trans, kept-within, listAt-kept}
+use Rattle.recording.proofs.Refusals.{read-ticks}
+use Rattle.expression.proofs.Laws.{planted-some}
+use Rattle.finder.proofs.Evaluator.{
+  shape-is,
+  few-channels,
+  point-done,
+  letter-done,
+  operand-sound,
+  operand-rounds,
+  one-over,
+  one-done,
+  two-over-left,
+  two-over-right,
+  two-done,
+}
+use Prim.Native.Nat.{ℕ, _<_}
+use borrow.Fn.Kinds.{In}
+use borrow.Fn.PlainCycle.{Measures, is, falls, and}
+use Rattle.finder.proofs.eval.Reads as eval
+use Rattle.finder.proofs.eval.Kinds as eval-kinds
+use Rattle.finder.proofs.+eval.Lts-eval as eval-lts
+use Rattle.expression.proofs.node_at.Reads as node-at-reads
+use Rattle.finder.proofs.apply.Reads as apply-reads
+use Rattle.finder.proofs.combine.Reads as combine-reads
+use Rattle.finder.proofs.letter.Reads as letter-reads
+use Rattle.finder.proofs.point.Reads as point-reads
+use Rattle.finder.proofs.shape_of.Reads as shape-of-reads
+use Rattle.finder.proofs.+eval.{statement}
+use Rattle.finder.proofs.+eval.Tie.{close}
+
+abbrev μ-eval : Measures 3 eval-kinds.ps ℕ
+μ-eval κs a = a .1 .1 .1 .1 .1 .1 .0
+
+abbrev eval-at : ℕ → In 3 eval-kinds.ps
+eval-at t = and 3 eval-kinds.ps (is 3 eval-kinds.ps μ-eval t) eval.Pre
+
+abbrev eval-below : ℕ → In 3 eval-kinds.ps
+eval-below t = and 3 eval-kinds.ps (falls 3 eval-kinds.ps _<_ μ-eval t) eval.Pre
+
+pub +eval-spec : {M : Type 1} → statement M
++eval-spec = close μ-eval λ t. eval-lts.spec (
+  node-at-reads.Asked,
+  node-at-reads.Learnt,
+  shape-of-reads.Asked,
+  shape-of-reads.Learnt,
+  point-reads.Asked,
+  point-reads.Learnt,
+  letter-reads.Asked,
+  letter-reads.Learnt,
+  eval-below t,
+  eval.Post,
+  apply-reads.Asked,
+  apply-reads.Learnt,
+  combine-reads.Asked,
+  combine-reads.Learnt,
+)
+    (eval-at t)
+    eval.Post
+    -- sub-rest
+    (λ c. omega (arith, planted-some (c .before .before .pre .1 .1 .planted)))
+    (λ c κs. search needs)
+    (λ c κs. search needs)
+    (λ c. search needs)
+    -- point-requires
+    (λ c κs. let o = c .before .before .before .before .before .before .before in
+    (read-ticks (o .pre .1 .0) .1, omega (arith, o .pre .1 .3)))
+    (λ c. search needs)
+    -- cast-letter
+    (λ c. let m = c .before in
+    let o = m .before .before .before .before .before .before in
+    omega (arith, shape-is _ (m .before .before .before .node-at .ensures) (m .before .before .shape-of .ensures) (m .channel .given .1) (o .pre .1 .1 .planted) .1, few-channels (o .pre .1 .0)))
+    -- letter-requires
+    (λ c κs. let o = c .before .before .before .before .before .before .before .before in
+    (o .pre .1 .0, omega (arith, o .pre .1 .3)))
+    (λ c. search needs)
+    -- eval-requires
+    (λ c κs. let m = c .before .before in
+    let o = m .before .before .before .before .before .before in
+    let s = shape-is _ (m .before .before .before .node-at .ensures) (m .before .before .shape-of .ensures) (m .op .given .1) (o .pre .1 .1 .planted) in
+    (omega (arith, o .pre .0, planted-some (o .pre .1 .1 .planted)), (o .pre .1 .0, record { expression = s .0; planted = s .3 }, omega (arith, o .pre .1 .2), omega (arith, o .pre .1 .3, planted-some (o .pre .1 .1 .planted)))))
+    (λ c. search needs)
+    (λ c. search needs)
+    -- same-length
+    (λ c. c .before .before .before .eval .ensures .1 .same-length)
+    -- returns
+    (λ c. let m = c .before .before .before .before .before .before in
+    let o = m .before .before .before .before .before .before in
+    (λ e p. let s = shape-is _ (m .before .before .before .node-at .ensures) (m .before .before .shape-of .ensures) (m .op .given .1) p in one-over (o .pre .1 .0) (s .0) (m .op .given .0 .0) (s .1) (rw (c .enum-told2 .given .1) at (c .before .before .before .eval .ensures .0 (s .0) (s .3))), kept-within (omega arith) (omega (arith, planted-some (o .pre .1 .1 .planted))) (c .before .before .before .eval .ensures .1)))
+    -- apply-requires
+    (λ c κs. let m = c .before .before .before .before .before .before .before .before in
+    let o = m .before .before .before .before .before .before in
+    let s = shape-is _ (m .before .before .before .node-at .ensures) (m .before .before .shape-of .ensures) (m .op .given .1) (o .pre .1 .1 .planted) in
+    let v = rw (c .before .before .count .given .1) at (c .before .before .before .before .before .eval .ensures .0 (s .0) (s .3)) in
+    (v .holds .few, omega (arith, o .pre .1 .3, planted-some (o .pre .1 .1 .planted), c .before .before .before .before .before .eval .ensures .1 .same-length), operand-sound (o .pre .1 .0) (s .0) v, read-ticks (o .pre .1 .0) .1, operand-rounds (o .pre .1 .0) (s .0) v (s .3) (omega (arith, o .pre .1 .2)), s .2))
+    (λ c. search needs)
+    -- eval-requires-2
+    (λ c κs. let m = c .before .before in
+    let o = m .before .before .before .before .before .before in
+    let s = shape-is _ (m .before .before .before .node-at .ensures) (m .before .before .shape-of .ensures) (m .op2 .given .1) (o .pre .1 .1 .planted) in
+    (omega (arith, o .pre .0, planted-some (o .pre .1 .1 .planted)), (o .pre .1 .0, record { expression = s .0; planted = s .3 }, omega (arith, o .pre .1 .2), omega (arith, o .pre .1 .3, planted-some (o .pre .1 .1 .planted)))))
+    (λ c. search needs)
+    (λ c. search needs)
+    -- same-length-2
+    (λ c. c .before .before .before .eval2 .ensures .1 .same-length)
+    -- returns-2
+    (λ c. let m = c .before .before .before .before .before .before in
+    let o = m .before .before .before .before .before .before in
+    (λ e p. let s = shape-is _ (m .before .before .before .node-at .ensures) (m .before .before .shape-of .ensures) (m .op2 .given .1) p in two-over-left (o .pre .1 .0) (s .0) (s .1) (m .op2 .given .0 .0) (s .2) (rw (c .enum-told3 .given .1) at (c .before .before .before .eval2 .ensures .0 (s .0) (s .3))), kept-within (omega arith) (omega (arith, planted-some (o .pre .1 .1 .planted))) (c .before .before .before .eval2 .ensures .1)))
+    -- add-eval
+    (λ c. omega (arith, c .before .before .before .before .before .before .before .before .before .before .before .before .before .before .pre .1 .3))
+    -- eval-requires-3
+    (λ c κs. let m = c .before .before .before .before .before .before .before .before in
+    let o = m .before .before .before .before .before .before in
+    let s = shape-is _ (m .before .before .before .node-at .ensures) (m .before .before .shape-of .ensures) (m .op2 .given .1) (o .pre .1 .1 .planted) in
+    (omega (arith, o .pre .0, planted-some (o .pre .1 .1 .planted)), (o .pre .1 .0, record { expression = s .1; planted = s .4 }, omega (arith, o .pre .1 .2), omega (arith, o .pre .1 .3, planted-some (o .pre .1 .1 .planted), c .before .before .before .before .before .eval2 .ensures .1 .same-length))))
+    (λ c. search needs)
+    (λ c. search needs)
+    -- same-length-3
+    (λ c. c .before .before .before .eval3 .ensures .1 .same-length ∙ c .before .before .before .before .before .before .before .before .before .eval2 .ensures .1 .same-length)
+    -- returns-3
+    (λ c. let m = c .before .before .before .before .before .before .before .before .before .before .before .before in
+    let o = m .before .before .before .before .before .before in
+    (λ e p. let s = shape-is _ (m .before .before .before .node-at .ensures) (m .before .before .shape-of .ensures) (m .op2 .given .1) p in two-over-right (o .pre .1 .0) (s .0) (s .1) (m .op2 .given .0 .0) (s .2) (rw (c .before .before .before .before .before .before .n .given .1) at (c .before .before .before .before .before .before .before .before .before .eval2 .ensures .0 (s .0) (s .3))) (rw (c .enum-told4 .given .1) at (c .before .before .before .eval3 .ensures .0 (s .1) (s .4))), kept-trans (kept-within (omega arith) (omega (arith, planted-some (o .pre .1 .1 .planted))) (c .before .before .before .before .before .before .before .before .before .eval2 .ensures .1)) (kept-within (omega arith) (omega (arith, planted-some (o .pre .1 .1 .planted))) (c .before .before .before .eval3 .ensures .1))))
+    -- add-combine
+    (λ c. let m = c .before .before .before .before .before .before .before .before .before .before .before .before .before .before in
+    let o = m .before .before .before .before .before .before in
+    let s = shape-is _ (m .before .before .before .node-at .ensures) (m .before .before .shape-of .ensures) (m .op2 .given .1) (o .pre .1 .1 .planted) in
+    omega (arith, operand-rounds (o .pre .1 .0) (s .0) (rw (c .before .before .before .before .before .before .before .before .n .given .1) at (c .before .before .before .before .before .before .before .before .before .before .before .eval2 .ensures .0 (s .0) (s .3))) (s .3) (omega (arith, o .pre .1 .2)), operand-rounds (o .pre .1 .0) (s .1) (rw (c .before .before .m .given .1) at (c .before .before .before .before .before .eval3 .ensures .0 (s .1) (s .4))) (s .4) (omega (arith, o .pre .1 .2))))
+    -- combine-requires
+    (λ c κs. let m = c .before .before .before .before .before .before .before .before .before .before .before .before .before .before in
+    let o = m .before .before .before .before .before .before in
+    let s = shape-is _ (m .before .before .before .node-at .ensures) (m .before .before .shape-of .ensures) (m .op2 .given .1) (o .pre .1 .1 .planted) in
+    let v = rw (c .before .before .before .before .before .before .before .before .n .given .1) at (c .before .before .before .before .before .before .before .before .before .before .before .eval2 .ensures .0 (s .0) (s .3)) in
+    let w = rw (c .before .before .m .given .1) at (c .before .before .before .before .before .eval3 .ensures .0 (s .1) (s .4)) in
+    (v .holds .few, w .holds .few, omega (arith, o .pre .1 .3, planted-some (o .pre .1 .1 .planted), c .before .before .before .before .before .before .before .before .before .before .before .eval2 .ensures .1 .same-length, c .before .before .before .before .before .eval3 .ensures .1 .same-length), subst Sound (sym (listAt-kept (o .args .base) (c .before .before .before .before .before .before .before .before .n .given .0 .0) (c .before .before .before .before .before .eval3 .ensures .1) (inl (omega (arith, v .holds .few))))) (operand-sound (o .pre .1 .0) (s .0) v), operand-sound (o .pre .1 .0) (s .1) w))
+    -- same-length-4
+    (λ c. c .before .point .ensures .1 .same-length)
+    -- returns-4
+    (λ c. (λ e p. point-done (c .before .before .before .before .before .before .before .before .before .pre .1 .0) (shape-is _ (c .before .before .before .before .before .before .node-at .ensures) (c .before .before .before .before .before .shape-of .ensures) (c .before .before .before .enum-told .given .1) p) _ _ (c .before .point .result) (c .before .point .ensures .0), kept-within (omega arith) (omega arith) (c .before .point .ensures .1)))
+    -- same-length-5
+    (λ c. c .before .letter .ensures .1 .same-length)
+    -- returns-5
+    (λ c. let m = c .before .before .before .before in
+    (λ e p. letter-done (m .before .before .before .before .before .before .pre .1 .0) (m .channel .given .0 .1 .0) (m .channel .given .0 .0) (shape-is _ (m .before .before .before .node-at .ensures) (m .before .before .shape-of .ensures) (m .channel .given .1) p .0) _ _ (c .before .letter .result) (c .before .letter .ensures .0), kept-within (omega arith) (omega arith) (c .before .letter .ensures .1)))
+    -- same-length-6
+    (λ c. c .before .apply .ensures .1 .same-length ∙ c .before .before .before .before .before .before .before .eval .ensures .1 .same-length)
+    -- returns-6
+    (λ c. let m = c .before .before .before .before .before .before .before .before .before .before in
+    let o = m .before .before .before .before .before .before in
+    (λ e p. let s = shape-is _ (m .before .before .before .node-at .ensures) (m .before .before .shape-of .ensures) (m .op .given .1) p in one-done (o .pre .1 .0) (s .0) (m .op .given .0 .0) (s .1) _ (c .before .apply .result) (rw (c .before .before .before .before .count .given .1) at (c .before .before .before .before .before .before .before .eval .ensures .0 (s .0) (s .3))) (c .before .apply .ensures .0), kept-trans (kept-within (omega arith) (omega (arith, planted-some (o .pre .1 .1 .planted))) (c .before .before .before .before .before .before .before .eval .ensures .1)) (kept-within (omega arith) (omega (arith, planted-some (o .pre .1 .1 .planted))) (c .before .apply .ensures .1))))
+    -- same-length-7
+    (λ c. c .before .combine .ensures .1 .same-length ∙ c .before .before .before .before .before .before .before .eval3 .ensures .1 .same-length ∙ c .before .before .before .before .before .before .before .before .before .before .before .before .before .eval2 .ensures .1 .same-length)
+    -- returns-7
+    (λ c. let m = c .before .before .before .before .before .before .before .before .before .before .before .before .before .before .before .before in
+    let o = m .before .before .before .before .before .before in (
+      λ e p. let s = shape-is _ (m .before .before .before .node-at .ensures) (m .before .before .shape-of .ensures) (m .op2 .given .1) p in
+          let v = rw (c .before .before .before .before .before .before .before .before .before .before .n .given .1) at (c .before .before .before .before .before .before .before .before .before .before .before .before .before .eval2 .ensures .0 (s .0) (s .3)) in two-done (o .pre .1 .0) (s .0) (s .1) (m .op2 .given .0 .0) (s .2) _ (c .before .combine .result) v (listAt-kept (o .args .base) (c .before .before .before .before .before .before .before .before .before .before .n .given .0 .0) (c .before .before .before .before .before .before .before .eval3 .ensures .1) (inl (omega (arith, v .holds .few)))) (rw (c .before .before .before .before .m .given .1) at (c .before .before .before .before .before .before .before .eval3 .ensures .0 (s .1) (s .4))) (c .before .combine .ensures .0),
+      kept-trans (kept-within (omega arith) (omega (arith, planted-some (o .pre .1 .1 .planted))) (c .before .before .before .before .before .before .before .before .before .before .before .before .before .eval2 .ensures .1)) (kept-trans (kept-within (omega arith) (omega (arith, planted-some (o .pre .1 .1 .planted))) (c .before .before .before .before .before .before .before .eval3 .ensures .1)) (kept-within (omega arith) (omega (arith, planted-some (o .pre .1 .1 .planted))) (c .before .combine .ensures .1))),
+    ))

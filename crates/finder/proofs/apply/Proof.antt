@@ -1,0 +1,26 @@
+-- `apply` meets its contract: the function for each case. Assumes nothing.
+use borrow.Author.Needs.{needs}
+use Rattle.finder.proofs.apply.Statement.{statement}
+use Rattle.finder.proofs.apply.Tie as tie
+
+banded-requires : tie.Need-banded-requires
+banded-requires c κs = (c .before .before .before .before .pre .0, c .before .before .before .before .pre .1, c .before .before .before .before .pre .2, c .before .before .before .before .pre .3, rw (c .before .before .op .given .1) at (c .before .before .before .before .pre .5))
+
+returns : tie.Need-returns
+returns c = (rw (c .before .before .before .enum-told .given .1) (c .before .star .ensures .0), c .before .star .ensures .1)
+
+returns-2 : tie.Need-returns-2
+returns-2 c = (rw (c .before .before .before .before .op .given .1) (c .before .banded .ensures .0), c .before .banded .ensures .1)
+
+pub apply-spec : {M : Type 1} → statement M
+apply-spec =
+    tie.close
+    (tie.spec
+    (λ c. search needs)
+    (λ c κs. search needs)
+    (λ c. search needs)
+    banded-requires
+    (λ c. search needs)
+    returns
+    (λ c. search needs)
+    returns-2)
