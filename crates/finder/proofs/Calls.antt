@@ -45,7 +45,7 @@ use Rattle.finder.specs.Outcome.{
   BuffersAs,
   FindAs,
 }
-use Rattle.finder.specs.Demands.{Demand2, Demand3, NoInputCause}
+use Rattle.finder.specs.Demands.{Exact, Total, NoInputCause}
 use Rattle.finder.proofs.Evaluation.{evaluates-well, evaluates-exists}
 use Rattle.finder.proofs.Members.{members}
 use Rattle.finder.proofs.Totals.{evaluates-sum, sum-mem, sum-unique, turns-unique, turns-bound, turns-pieces}
@@ -56,7 +56,7 @@ use Rattle.finder.proofs.Answered.{front-words, list-words}
 -- ---- zones
 
 -- In the finished list lie exactly the satisfying stretches.
-pub comes-exact : {bytes text : List ℕ} {L : List Zone} {rounds : ℕ} → Comes bytes text (value L rounds) → Demand2 bytes text L
+pub comes-exact : {bytes text : List ℕ} {L : List Zone} {rounds : ℕ} → Comes bytes text (value L rounds) → Exact bytes text L
 comes-exact {bytes} {rounds = rounds} c =
     let w = evaluates-well (Shows bytes) (omega arith) (c .drill) rounds (c .evaluates) in
     record {
@@ -84,14 +84,14 @@ module _ {bytes text : List ℕ} {answer work answer′ work′ : List ℤ} {zon
       (h .buffers .list, h .buffers .comes, e, cc)
 
   -- And in the zones that are read back from that front lie exactly the satisfying stretches.
-  pub call-exact : Demand2 bytes text (listAt (frontOf answer′ zones) 0 zones)
+  pub call-exact : Exact bytes text (listAt (frontOf answer′ zones) 0 zones)
   call-exact =
       let c = front-call in
       let n = c .2 in
       let f = c .3 in
       let g = list-words (c .0) in
       let e : c .0 ≡ listAt (frontOf answer′ zones) 0 zones = cc in
-      subst (Demand2 bytes text) e (comes-exact (c .1))
+      subst (Exact bytes text) e (comes-exact (c .1))
 
 -- ---- rounds
 
@@ -100,7 +100,7 @@ some-ticks : {bytes : List ℕ} → ¬ ¬ Headed bytes → 0 < ticks bytes
 some-ticks {bytes} n = elim (decLe 1 (ticks bytes)) [ yes h ↦ h | no h ↦ absurd (n (λ d. h (tick-range (d .long) (d .short) .0))) ]
 
 -- The rounds of every `*` written, and their sum.
-pub comes-bounded : {bytes text : List ℕ} {L : List Zone} {rounds : ℕ} → 0 < ticks bytes → Comes bytes text (value L rounds) → Demand3 bytes text rounds
+pub comes-bounded : {bytes text : List ℕ} {L : List Zone} {rounds : ℕ} → 0 < ticks bytes → Comes bytes text (value L rounds) → Total bytes text rounds
 comes-bounded {bytes} {L = L} {rounds = rounds} some c =
     let s = evaluates-sum (Shows bytes) (c .drill) L rounds (c .evaluates) in
     record {
@@ -117,13 +117,13 @@ comes-bounded {bytes} {L = L} {rounds = rounds} some c =
     }
 
 -- There is one total.
-pub total-unique : {bytes text : List ℕ} {m n : ℕ} → Demand3 bytes text m → Demand3 bytes text n → m ≡ n
+pub total-unique : {bytes text : List ℕ} {m n : ℕ} → Total bytes text m → Total bytes text n → m ≡ n
 total-unique {bytes} {m = m} p q =
     let e = unique (p .form) (q .form) in
     sum-unique (turns-unique (Shows bytes)) (subst (λ (d : Expression). Sum (Turns (Shows bytes) 0 (ticks bytes)) (repeated d) m) e (p .sum)) (q .sum)
 
 -- Of every recording and drill for which none of causes 1 to 8 and 10 holds.
-pub inputs-bounded : {bytes text : List ℕ} → NoInputCause bytes text → (total : ℕ) × Demand3 bytes text total
+pub inputs-bounded : {bytes text : List ℕ} → NoInputCause bytes text → (total : ℕ) × Total bytes text total
 inputs-bounded {bytes} {text} none = ⊎-elim (λ a. given (a .0) (a .1)) (λ r. absurd (ruled (r .0) (r .1 .holds))) (answered text (channels bytes))
   where
     some : 0 < ticks bytes
@@ -138,16 +138,16 @@ inputs-bounded {bytes} {text} none = ⊎-elim (λ a. given (a .0) (a .1)) (λ r.
     ruled _ (too-deep x y) =
         none DrillDepth (append-right (recordings ++ (DrillLength ∷ DrillForm ∷ DrillLetter ∷ DrillRange ∷ [])) (List·Memᴰ·head refl)) (too-deep x y)
 
-    total : (v : Value) → Comes bytes text v → (n : ℕ) × Demand3 bytes text n
+    total : (v : Value) → Comes bytes text v → (n : ℕ) × Total bytes text n
     total (value L r) c = (r, comes-bounded some c)
     total overflow c = absurd (none ListFull (append-right (recordings ++ drills) (List·Memᴰ·head refl)) c)
 
-    given : (e : Expression) → Accepted text (channels bytes) e → (n : ℕ) × Demand3 bytes text n
+    given : (e : Expression) → Accepted text (channels bytes) e → (n : ℕ) × Total bytes text n
     given e a =
         let v = evaluates-exists (recording-finite bytes 0 (ticks bytes)) some e in total (v .0) (record { drill = e; form = a .form; evaluates = v .1 })
 
 -- And what an accepted call reports is that total.
-pub call-bounded : {bytes text : List ℕ} {answer work : ℕ} {zones rounds : ℕ} → CallAs bytes text answer work (Finished zones rounds) → Demand3 bytes text rounds
+pub call-bounded : {bytes text : List ℕ} {answer work : ℕ} {zones rounds : ℕ} → CallAs bytes text answer work (Finished zones rounds) → Total bytes text rounds
 call-bounded (accepted none comes count) = comes-bounded (some-ticks (none RecordingHead (List·Memᴰ·tail (List·Memᴰ·head refl)))) comes
 call-bounded (refused f) = absurd (f .holds)
 

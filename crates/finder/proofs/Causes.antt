@@ -133,3 +133,8 @@ module _ {bytes text : List ℕ} {answer work : ℕ} where
       given AnswerShort c e = omega arith
       given (Finished zones rounds) c e = c
   number-none (accepted n c l) = (λ _. n, λ _. refl)
+
+  -- Number 0 is a finished list's alone.
+  pub call-accepted : {o : Outcome} → CallAs bytes text answer work o → returned o .number ≡ 0 → o ≡ Finished (returned o .zones) (returned o .rounds)
+  call-accepted (refused f) e = absurd (not-refused (number-none (refused f) .0 e) f)
+  call-accepted (accepted n c l) e = refl

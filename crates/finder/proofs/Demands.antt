@@ -1,17 +1,15 @@
--- The three demands on one page, each proved by the theorems it names. `FindAs` is what `find` promises of its outcome and both buffers.
-use mathlib.Core.Path.{_≡_}
+-- The three demands on one page, each proved by the theorems it names. `FindAs` is the defined outcome of a call, with both buffers.
+use mathlib.Core.Path.{_≡_, subst}
 use mathlib.Core.List.{List}
 use Prim.Native.Nat.{ℕ}
 use lib.IntN.{ℤ}
-use lib.ListN.{length}
-use Rattle.list.specs.Slots.{listAt}
-use Rattle.finder.specs.Outcome.{Outcome, Finished, CallAs, frontOf, FindAs}
-use Rattle.finder.specs.Demands.{Demand1, Demand2, Demand3, NoInputCause}
-use Rattle.finder.proofs.Causes.{call-unique, number-first, number-none}
+use Rattle.finder.specs.Outcome.{Outcome, Finished, returned, CallAs, FindAs}
+use Rattle.finder.specs.Demands.{Demand1, Demand2, Demand3, Total, NoInputCause}
+use Rattle.finder.proofs.Causes.{call-unique, number-first, number-none, call-accepted}
 use Rattle.finder.proofs.Turned.{call-exists}
 use Rattle.finder.proofs.Calls.{call-exact, call-bounded, inputs-bounded, total-unique, find-unique}
 
--- ==== Demand 1
+-- ==== Of every call
 
 -- Every call has an outcome, and one only.
 pub one-outcome : (bytes text : List ℕ) (answer work : ℕ)
@@ -23,25 +21,25 @@ pub one-result : {bytes text : List ℕ} {answer work a w b v : List ℤ} {o p :
     → (o ≡ p) × (a ≡ b) × (w ≡ v)
 one-result = find-unique
 
--- ==== Demand 3, of every recording and drill for which none of causes 1 to 8 and 10 holds
+-- Every recording and drill for which none of causes 1 to 8 and 10 holds has one total of rounds, with the bounds of demand 3.
+pub one-total : {bytes text : List ℕ} → NoInputCause bytes text → (total : ℕ) × Total bytes text total × ((n : ℕ) → Total bytes text n → n ≡ total)
+one-total none = let t = inputs-bounded none in (t .0, t .1, λ n d. total-unique d (t .1))
 
--- There is one total: every `*` written keeps to n + d in its rounds and its pieces, and the total is the sum of their rounds.
-pub demand-3 : {bytes text : List ℕ} → NoInputCause bytes text → (total : ℕ) × Demand3 bytes text total × ((n : ℕ) → Demand3 bytes text n → n ≡ total)
-demand-3 none = let t = inputs-bounded none in (t .0, t .1, λ n d. total-unique d (t .1))
+-- ==== The demands on a call that has the defined outcome
 
--- ==== The demands on a call
-
-module _ {bytes text : List ℕ} {answer work answer′ work′ : List ℤ} where
+module _ {bytes text : List ℕ} {answer work answer′ work′ : List ℤ} {o : Outcome} (h : FindAs bytes text answer work o answer′ work′) where
   -- Demand 1: it is refused by the number of the first cause that holds, and accepted exactly where none holds.
-  pub demand-1 : {o : Outcome} → FindAs bytes text answer work o answer′ work′ → Demand1 bytes text (length answer) (length work) o
-  demand-1 h = record { refuses = number-first (h .outcome); accepts = number-none (h .outcome) }
+  pub demand-1 : Demand1 bytes text answer work o answer′ work′
+  demand-1 = record { defined = h; refuses = number-first (h .outcome); accepts = number-none (h .outcome) }
+
+  finished : returned o .number ≡ 0 → FindAs bytes text answer work (Finished (returned o .zones) (returned o .rounds)) answer′ work′
+  finished e = subst (λ (p : Outcome). FindAs bytes text answer work p answer′ work′) (call-accepted (h .outcome) e) h
 
   -- Demand 2: where it is accepted, some zone read back from the front of the answer holds a stretch exactly if the stretch satisfies the
   -- drill; every zone is tight and inside 0..d, none is empty, none lies inside another.
-  pub demand-2 : {zones rounds : ℕ} → FindAs bytes text answer work (Finished zones rounds) answer′ work′
-      → Demand2 bytes text (listAt (frontOf answer′ zones) 0 zones)
-  demand-2 h = call-exact h
+  pub demand-2 : Demand2 bytes text o answer′
+  demand-2 e = call-exact (finished e)
 
-  -- Demand 3: and the rounds it reports are the total.
-  pub demand-3-call : {zones rounds : ℕ} → FindAs bytes text answer work (Finished zones rounds) answer′ work′ → Demand3 bytes text rounds
-  demand-3-call h = call-bounded (h .outcome)
+  -- Demand 3: there is one total, and it is what an accepted call reports.
+  pub demand-3 : Demand3 bytes text o
+  demand-3 = record { bounded = one-total; reported = λ e. call-bounded (finished e .outcome) }

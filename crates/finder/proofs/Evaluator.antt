@@ -2,7 +2,6 @@
 use mathlib.Core.Path.{_≡_, sym, ap, subst, _∙_}
 use mathlib.Core.List.{List}
 use Prim.Native.Nat.{ℕ, _+_, _-_, _≤_, _<_}
-use native.Mathlib.Nat.{pow-le-pow-right, mul-le-mul-right, mul-le-mul-left, le-trans}
 use native.Mathlib.Omega.{arith}
 use lib.IntN.{ℤ}
 use Rattle.zone.specs.declared.Zone.{Zone}
@@ -102,11 +101,7 @@ module _ {bytes : List ℕ} {recording : Recording} (read : ReadAs bytes recordi
     pub operand-rounds : {ns : List ℕ} {channels i d : ℕ} → Planted ns channels i d f → d ≤ 16 → p ≤ most-rounds
     operand-rounds t h =
         let a = read-ticks read in
-        let b = rounds-few (Shows bytes) {from = 0} {to = recording .ticks} (omega arith) f (s .list) p (s .means) in
-        let c = pow-le-pow-right {n = 2} (omega arith) {i = depth f} {j = 16} (omega (arith, t .shallow)) in
-        let d = mul-le-mul-right (128 + (recording .ticks - 0)) c in
-        let e : 128 + (recording .ticks - 0) ≤ 1_000_128 = omega arith in
-        omega (arith, le-trans b (le-trans d (mul-le-mul-left 65536 e)))
+        rounds-few (Shows bytes) {from = 0} {to = recording .ticks} (omega arith) f (s .list) p (omega (arith, t .shallow)) (omega arith) (s .means)
 
   -- the channels have room in a byte
   pub few-channels : recording .channels ≤ 16

@@ -8,8 +8,11 @@ pub mod Causes
 pub mod Turned
 pub mod Answered
 pub mod Calls
+pub mod Sizes
 pub mod Demands
+pub mod Marked
 pub mod Answers
 pub mod Letters
 pub mod Evaluator
 pub mod Buffers
+pub mod Finding

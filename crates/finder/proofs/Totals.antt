@@ -2,7 +2,7 @@
 use mathlib.Core.Path.{_≡_, refl, sym, subst}
 use mathlib.Core.List.{List, [], _∷_, _++_, List·Memᴰ, List·Memᴰ·head, List·Memᴰ·tail, List·Memᴰ·not-nil as not-nil}
 use Prim.Native.Nat.{ℕ, suc, _+_, _-_, _*_, _^_, _≤_, _<_, max}
-use native.Mathlib.Nat.{pow-suc, pow-le-pow-right, mul-le-mul-right, le-trans}
+use native.Mathlib.Nat.{pow-suc, pow-le-pow-right, mul-le-mul-left, mul-le-mul-right, le-trans}
 use native.Mathlib.Omega.{arith}
 use lib.ListN.{length, length-append}
 use Rattle.zone.specs.Time.{Time}
@@ -18,6 +18,7 @@ use Rattle.recording.specs.declared.Level.{Level}
 use Rattle.expression.specs.Expression.{Expression, epsilon, high, low, union, intersection, concatenation, star, band, depth}
 use Rattle.finder.specs.Satisfies.{Stretch, Satisfies}
 use Rattle.finder.specs.Lists.{value, rangeBand, Evaluates, repeated, Turns, Sum, Sum.none, Sum.also}
+use Rattle.finder.specs.Steps.{most-rounds}
 use Rattle.finder.proofs.Evaluation.{FiniteVariability, listed-of, letter-parts, then-parts, both-parts, closes-parts, evaluates-unique, evaluates-well}
 use Rattle.finder.proofs.Members.{pieces-members}
 
@@ -124,8 +125,11 @@ module _ (Shows : ℕ → Level → ℕ → Type 0) {from to : ℕ} (some : from
   turns-few : (f : Expression) (k : ℕ) → Turns Shows from to f k → k ≤ 128 + (to - from)
   turns-few f k w = let h = turns-bound Shows some w in let s = evaluates-well Shows (omega arith) f _ (w .list) .short in omega arith
 
-  -- So the total of rounds of an expression of depth d is at most 2 to the power d, times 128 + (to − from).
-  pub rounds-few : (e : Expression) (L : List Zone) (t : ℕ) → Evaluates Shows from to e (value L t) → t ≤ 2 ^ depth e * (128 + (to - from))
-  rounds-few e L t p =
+  -- So the total of rounds of an expression of depth 16, over 1,000,000 ticks, is one that the machine's numbers hold.
+  pub rounds-few : (e : Expression) (L : List Zone) (t : ℕ) → depth e ≤ 16 → to - from ≤ 1_000_000 → Evaluates Shows from to e (value L t) → t ≤ most-rounds
+  rounds-few e L t shallow short p =
       let a : length (repeated e) ≤ 2 ^ depth e = let h = repeated-few e in omega arith in
-      le-trans (sum-bound turns-few (evaluates-sum Shows e L t p)) (mul-le-mul-right (128 + (to - from)) a)
+      let b = sum-bound turns-few (evaluates-sum Shows e L t p) in
+      let c = le-trans (mul-le-mul-right (128 + (to - from)) a) (mul-le-mul-right (128 + (to - from)) (pow-le-pow-right {n = 2} (omega arith) {i = depth e} {j = 16} shallow)) in
+      let d : 128 + (to - from) ≤ 1_000_128 = omega arith in
+      omega (arith, le-trans b (le-trans c (mul-le-mul-left 65_536 d)))

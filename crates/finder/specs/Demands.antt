@@ -1,14 +1,16 @@
--- The three demands, each as one record, so that a contract can cite it.
+-- The three demands, as the contract of a call cites them.
 use mathlib.Core.Path.{_≡_}
 use mathlib.Core.Logic.{_↔_}
 use mathlib.Core.List.{List, [], _∷_, List·Memᴰ}
 use Prim.Native.Nat.{ℕ, _+_, _-_, _≤_, _<_}
+use lib.IntN.{ℤ}
 use lib.ListN.{length}
 use Rattle.zone.specs.Time.{Time}
 use Rattle.zone.specs.declared.Zone.{Zone}
 use Rattle.zone.specs.Zone.{In}
 use Rattle.list.specs.Pieces.{Pieces, Lies, AllProper}
 use Rattle.list.specs.Antichain.{Antichain}
+use Rattle.list.specs.Slots.{listAt}
 use Rattle.recording.specs.Reading.{ticks}
 use Rattle.recording.specs.Levels.{Shows}
 use Rattle.recording.specs.declared.Level.{Level}
@@ -31,17 +33,23 @@ use Rattle.finder.specs.Outcome.{
   Cause,
   First,
   NoCause,
+  frontOf,
+  FindAs,
 }
 
--- Demand 1, of the outcome of a call: "Each is given when its cause holds and no earlier one does, and never otherwise. A drill is accepted
--- where no cause holds"
-pub record Demand1 (bytes text : List ℕ) (answer work : ℕ) (o : Outcome) : Type 0 where
-  pub refuses : (p : Outcome) → 0 < returned p .number → (returned o .number ≡ returned p .number) ↔ First bytes text answer work p
-  pub accepts : (returned o .number ≡ 0) ↔ NoCause bytes text answer work
+-- ==== Demand 1: the outcome and both buffers are the defined ones. "Each is given when its cause holds and no earlier one does, and never
+-- otherwise. A drill is accepted where no cause holds"
 
--- Demand 2, of the zones listed: some zone holds a stretch inside 0..d exactly if it satisfies the drill; every zone is tight and inside
--- 0..d, none is empty, none lies inside another
-pub record Demand2 (bytes text : List ℕ) (L : List Zone) : Type 0 where
+pub record Demand1 (bytes text : List ℕ) (answer work : List ℤ) (o : Outcome) (answer′ work′ : List ℤ) : Type 0 where
+  pub defined : FindAs bytes text answer work o answer′ work′
+  pub refuses : (p : Outcome) → 0 < returned p .number → (returned o .number ≡ returned p .number) ↔ First bytes text (length answer) (length work) p
+  pub accepts : (returned o .number ≡ 0) ↔ NoCause bytes text (length answer) (length work)
+
+-- ==== Demand 2
+
+-- some zone of the list holds a stretch inside 0..d exactly if it satisfies the drill; every zone is tight and inside 0..d, none is empty,
+-- none lies inside another
+pub record Exact (bytes text : List ℕ) (L : List Zone) : Type 0 where
   pub drill : Expression
   pub form : Form alternative text drill
   pub exact : (x y : Time) → Stretch 0 (ticks bytes) x y → Lies L x y ↔ Satisfies (Shows bytes) drill x y
@@ -49,8 +57,14 @@ pub record Demand2 (bytes text : List ℕ) (L : List Zone) : Type 0 where
   pub some : (z : Zone) → List·Memᴰ z L → (x : Time) × (y : Time) × In z x y
   pub apart : Antichain L
 
--- Demand 3, of one `*` whose part repeated is f: its rounds, the last included, are at most n + d, n the zones of the finished inner list;
--- every satisfying stretch is cut into at most n + d consecutive pieces that each satisfy f
+-- of an accepted call: of the zones read back from the front of the answer
+abbrev pub Demand2 : (bytes text : List ℕ) → Outcome → (answer′ : List ℤ) → Type 0
+Demand2 bytes text o answer′ = returned o .number ≡ 0 → Exact bytes text (listAt (frontOf answer′ (returned o .zones)) 0 (returned o .zones))
+
+-- ==== Demand 3
+
+-- of one `*` whose part repeated is f: its rounds, the last included, are at most n + d, n the zones of the finished inner list; every
+-- satisfying stretch is cut into at most n + d consecutive pieces that each satisfy f
 pub record Bounded (Shows : ℕ → Level → ℕ → Type 0) (from to : ℕ) (f : Expression) : Type 0 where
   pub rounds : ℕ
   pub turns : Turns Shows from to f rounds
@@ -58,8 +72,8 @@ pub record Bounded (Shows : ℕ → Level → ℕ → Type 0) (from to : ℕ) (f
   pub pieces : (x y : Time) → Stretch from to x y → Satisfies Shows (star f) x y
       → (n : ℕ) × (n ≤ length (turns .inner) + (to - from)) × Pieces (λ s t. Satisfies Shows f s t) n x y
 
--- Demand 3, of a recording, a drill and a total of rounds: every `*` written, and the sum over all of them
-pub record Demand3 (bytes text : List ℕ) (total : ℕ) : Type 0 where
+-- of a recording and a drill: every `*` written, and the sum over all of them
+pub record Total (bytes text : List ℕ) (total : ℕ) : Type 0 where
   pub drill : Expression
   pub form : Form alternative text drill
   pub each : (f : Expression) → List·Memᴰ f (repeated drill) → Bounded (Shows bytes) 0 (ticks bytes) f
@@ -72,3 +86,8 @@ inputs =
 
 abbrev pub NoInputCause : (bytes text : List ℕ) → Type 0
 NoInputCause bytes text = (p : Outcome) → List·Memᴰ p inputs → ¬ Cause bytes text 0 0 p
+
+-- where none of those causes holds there is one total, whatever the buffers; and an accepted call reports it
+pub record Demand3 (bytes text : List ℕ) (o : Outcome) : Type 0 where
+  pub bounded : NoInputCause bytes text → (total : ℕ) × Total bytes text total × ((n : ℕ) → Total bytes text n → n ≡ total)
+  pub reported : returned o .number ≡ 0 → Total bytes text (returned o .rounds)

@@ -14,6 +14,7 @@ use Rattle.expression.specs.Expression.{Expression}
 use Rattle.expression.specs.Grammar.{Form, alternative}
 use Rattle.expression.specs.Refusal.{Cause as DrillCause}
 use Rattle.finder.specs.Lists.{Value, value, overflow, Evaluates}
+pub use Rattle.finder.specs.declared.Returned.{Returned}
 pub use Rattle.finder.specs.declared.Outcome.{Outcome}
 pub use Rattle.finder.specs.declared.Outcome.the-variants.{
   RecordingLength,
@@ -31,11 +32,6 @@ pub use Rattle.finder.specs.declared.Outcome.the-variants.{
 }
 
 -- ---- what is returned
-
-pub record Returned : Type 0 where
-  pub number : ℕ
-  pub zones : ℕ
-  pub rounds : ℕ
 
 -- "number, 0 zones, 0 rounds"
 abbrev pub refusal : ℕ → Returned

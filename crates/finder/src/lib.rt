@@ -1,5 +1,6 @@
 // The drill finder.
 use expression::Node;
+use expression::Parsed;
 use expression::Range;
 use expression::Upper;
 use list::Inserted;
@@ -8,6 +9,7 @@ use list::Starred;
 use recording::Cursor;
 use recording::Level;
 use recording::Next;
+use recording::Reading;
 use recording::Recording;
 use zone::Limit;
 use zone::MaybeZone;
@@ -23,14 +25,16 @@ ghost use Rattle.zone.specs.Zone.{Ranged, diagonal};
 ghost use Rattle.list.specs.Insert.{insert-each};
 ghost use Rattle.list.specs.Operators.{banded};
 ghost use Rattle.list.specs.Slots.{listAt, Kept, Sound, Disjoint, BuiltAs};
-ghost use Rattle.recording.specs.Reading.{ReadAs};
+ghost use Rattle.recording.specs.declared.Reading.the-variants.{Recorded};
+ghost use Rattle.recording.specs.Reading.{ReadAs, reading};
 ghost use Rattle.recording.specs.Levels.{Shows};
 ghost use Rattle.expression.specs.Expression.{Expression};
 ghost use Rattle.expression.specs.Refusal.{Wrong};
 ghost use Rattle.expression.specs.Planted.{Planted};
 ghost use Rattle.finder.specs.Lists.{ended, longest, rangeBand, Letter, Closes, Evaluates};
-ghost use Rattle.finder.specs.Outcome.{room, words, fronted, cleared, frontOf};
-ghost use Rattle.finder.specs.Steps.{EvaluatedAs, most-rounds, shapeOf, joined, applied, RightUnary, Rooted};
+ghost use Rattle.finder.specs.Outcome.{largest, room, words, fronted, cleared, frontOf, FindAs, refusal, returned};
+ghost use Rattle.finder.specs.Demands.{Demand1, Demand2, Demand3};
+ghost use Rattle.finder.specs.Steps.{EvaluatedAs, most-rounds, shapeOf, joined, applied, RightUnary, Rooted, WorkedAs};
 
 // What a call comes to: a finished list, or the refusal whose cause holds and no earlier one does.
 pub enum Outcome {
@@ -46,6 +50,13 @@ pub enum Outcome {
     ListFull,
     AnswerShort,
     Finished { zones: usize, rounds: u64 },
+}
+
+// What a call returns: its number (0 where it is accepted), the zones listed and the total of rounds.
+pub struct Returned {
+    pub number: u32,
+    pub zones: usize,
+    pub rounds: u64,
 }
 
 // What an expression comes to: a list with its count and its total of rounds, or one that would have 129 zones.
@@ -361,6 +372,111 @@ fn deliver(work: &[i32], answer: &mut [i32], count: usize)
     while i < n {
         answer[i] = work[i];
         i += 1;
+    }
+}
+
+// A stored drill worked out: its list evaluated in the work buffer and delivered, and the work buffer cleared.
+fn work_out(
+    bytes: &[u8],
+    recording: Recording,
+    nodes: &[u32],
+    root: u32,
+    answer: &mut [i32],
+    work: &mut [i32],
+) -> Outcome
+    requires { ⌜ (ReadAs (now bytes) recording) × (Rooted (now nodes) (recording .channels) root 16) ⌝ }
+    ensures { λ o. ⌜ ((e : Expression) → Planted (now (nodes .entry)) (recording .channels) root 16 e → WorkedAs (Evaluates (Shows (now (bytes .entry))) 0 (recording .ticks) e) o (now (answer .entry)) (now (work .entry)) (now (answer .exit)) (now (work .exit))) ⌝ }
+{
+    if work.len() < 16_384 {
+        return Outcome::WorkShort;
+    }
+    let Evaluated::Listed { count, rounds } = eval(bytes, recording, nodes, root, work, 0, 16)
+    else {
+        clear(work);
+        return Outcome::ListFull;
+    };
+    if answer.len() / 6 < count {
+        clear(work);
+        return Outcome::AnswerShort;
+    }
+    deliver(work, answer, count);
+    clear(work);
+    Outcome::Finished {
+        zones: count,
+        rounds,
+    }
+}
+
+// The drill read, and worked out on a recording that has been read.
+fn read_drill(
+    bytes: &[u8],
+    recording: Recording,
+    drill: &[u8],
+    answer: &mut [i32],
+    work: &mut [i32],
+) -> Outcome
+    requires { ⌜ reading largest (now bytes) ≡ Recorded recording ⌝ }
+    ensures { λ o. ⌜ FindAs (now (bytes .entry)) (now (drill .entry)) (now (answer .entry)) (now (work .entry)) o (now (answer .exit)) (now (work .exit)) ⌝ }
+{
+    let mut nodes = [0u32; 1020];
+    match expression::parse(drill, recording.channels as usize, &mut nodes) {
+        Parsed::Root(root) => work_out(bytes, recording, &nodes, root, answer, work),
+        Parsed::WrongLength => Outcome::DrillLength,
+        Parsed::NoForm => Outcome::DrillForm,
+        Parsed::WrongLetter => Outcome::DrillLetter,
+        Parsed::WrongRange => Outcome::DrillRange,
+        Parsed::TooDeep => Outcome::DrillDepth,
+    }
+}
+
+// Lists every stretch of the recording that fits the drill, as zones in front of the answer buffer, or refuses.
+pub fn find(recording: &[u8], drill: &[u8], answer: &mut [i32], work: &mut [i32]) -> Outcome
+    ensures demand1 { λ o. ⌜ Demand1 (now (recording .entry)) (now (drill .entry)) (now (answer .entry)) (now (work .entry)) o (now (answer .exit)) (now (work .exit)) ⌝ }
+    ensures demand2 { λ o. ⌜ Demand2 (now (recording .entry)) (now (drill .entry)) o (now (answer .exit)) ⌝ }
+    ensures demand3 { λ o. ⌜ Demand3 (now (recording .entry)) (now (drill .entry)) o ⌝ }
+{
+    match recording::read(recording, 32_768) {
+        Reading::Recorded(numbers) => read_drill(recording, numbers, drill, answer, work),
+        Reading::WrongLength => Outcome::RecordingLength,
+        Reading::WrongHead => Outcome::RecordingHead,
+        Reading::WrongChange => Outcome::RecordingChange,
+    }
+}
+
+// A refusal lists nothing and reports no rounds.
+fn refusal(number: u32) -> Returned
+    ensures { λ r. ⌜ r ≡ refusal number ⌝ }
+{
+    Returned {
+        number,
+        zones: 0,
+        rounds: 0,
+    }
+}
+
+impl Outcome {
+    // The number, zones and rounds of the outcome.
+    pub fn returned(self) -> Returned
+        ensures { λ r. ⌜ r ≡ returned self ⌝ }
+    {
+        match self {
+            Outcome::RecordingLength => refusal(1),
+            Outcome::RecordingHead => refusal(2),
+            Outcome::RecordingChange => refusal(3),
+            Outcome::DrillLength => refusal(4),
+            Outcome::DrillForm => refusal(5),
+            Outcome::DrillLetter => refusal(6),
+            Outcome::DrillRange => refusal(7),
+            Outcome::DrillDepth => refusal(8),
+            Outcome::WorkShort => refusal(9),
+            Outcome::ListFull => refusal(10),
+            Outcome::AnswerShort => refusal(11),
+            Outcome::Finished { zones, rounds } => Returned {
+                number: 0,
+                zones,
+                rounds,
+            },
+        }
     }
 }
 

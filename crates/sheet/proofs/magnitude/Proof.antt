@@ -1,0 +1,30 @@
+use borrow.Author.Needs.{needs}
+use Rattle.sheet.proofs.Signed.{test-back, raised-fits, turned-fits, cast-fits, last-is, last-fits, plain-fits}
+use Rattle.sheet.proofs.magnitude.Statement.{statement}
+use Rattle.sheet.proofs.magnitude.Tie as tie
+
+add-result : tie.Need-add-result
+add-result c = raised-fits (c .before .fits .v) (test-back (c .before .fits .v) (c .if1 .taken))
+
+sub-result : tie.Need-sub-result
+sub-result c = turned-fits (c .before .fits .v) (test-back (c .before .fits .v) (c .if1 .taken))
+
+cast-result : tie.Need-cast-result
+cast-result c = cast-fits (c .before .fits .v) (test-back (c .before .fits .v) (c .if1 .taken))
+
+add-result-2 : tie.Need-add-result-2
+add-result-2 c = last-fits (c .before .fits .v) (test-back (c .before .fits .v) (c .if1 .taken))
+
+cast-result-2 : tie.Need-cast-result-2
+cast-result-2 c = plain-fits (c .before .fits .v) (test-back (c .before .fits .v) (c .if1 .left))
+
+returns : tie.Need-returns
+returns c = last-is (c .before .fits .v) (test-back (c .before .fits .v) (c .if1 .taken))
+
+returns-2 : tie.Need-returns-2
+returns-2 c = search needs
+
+pub magnitude-spec : {M : Type 1} → statement M
+magnitude-spec =
+    tie.close
+    (tie.spec add-result sub-result cast-result add-result-2 cast-result-2 returns returns-2)
