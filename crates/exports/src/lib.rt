@@ -1,0 +1,38 @@
+// The finder for programs in other languages: functions on numbers and slices alone.
+ghost use mathlib.Core.Path.{_≡_};
+ghost use Prim.Native.Nat.{_≤_, _<_};
+ghost use lib.ListN.{length};
+ghost use Rattle.finder.specs.Outcome.{frontOf};
+ghost use Rattle.exports.specs.Exports.{Called, Uncalled};
+
+// `finder::find`, with its number as the answer and its zones and rounds in the first two counts. Where there is no room
+// for two counts no call is made, and the answer is 12, which is no refusal's number.
+#[no_mangle]
+pub extern "C" fn zikpasho_find(
+    recording: &[u8],
+    drill: &[u8],
+    answer: &mut [i32],
+    work: &mut [i32],
+    counts: &mut [u64],
+) -> u32
+    ensures call { λ r. ⌜ (2 ≤ length (now (counts .entry)) → Called (now (recording .entry)) (now (drill .entry)) (now (answer .entry)) (now (work .entry)) (now (counts .entry)) r (now (answer .exit)) (now (work .exit)) (now (counts .exit))) ⌝ }
+    ensures none { λ r. ⌜ (length (now (counts .entry)) < 2 → Uncalled (now (answer .entry)) (now (work .entry)) (now (counts .entry)) r (now (answer .exit)) (now (work .exit)) (now (counts .exit))) ⌝ }
+{
+    if counts.len() < 2 {
+        return 12;
+    }
+    let outcome = finder::find(recording, drill, answer, work);
+    let told = outcome.returned();
+    counts[0] = told.zones as u64;
+    counts[1] = told.rounds;
+    told.number
+}
+
+// The number of words of `finder::front`, which starts where the answer does.
+#[no_mangle]
+pub extern "C" fn zikpasho_front(answer: &[i32], zones: usize) -> usize
+    ensures { λ r. ⌜ r ≡ length (frontOf (now (answer .entry)) zones) ⌝ }
+{
+    let front = finder::front(answer, zones);
+    front.len()
+}

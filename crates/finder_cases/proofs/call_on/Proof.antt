@@ -1,0 +1,38 @@
+-- `call_on` is safe and ends. Assumes nothing.
+use mathlib.Core.Path.{sym}
+use native.Mathlib.Omega.{arith}
+use lib.Seq.{length-take-le}
+use borrow.Author.Needs.{needs}
+use Rattle.finder_cases.proofs.call_on.Statement.{statement}
+use Rattle.finder_cases.proofs.call_on.Tie as tie
+
+slice-aggregate-call : tie.Need-slice-aggregate-call
+slice-aggregate-call c = sym (length-take-le _ _ (omega arith))
+
+slice-aggregate-call-2 : tie.Need-slice-aggregate-call-2
+slice-aggregate-call-2 c = sym (length-take-le _ _ (omega arith))
+
+slice-aggregate-call-3 : tie.Need-slice-aggregate-call-3
+slice-aggregate-call-3 c = sym (length-take-le _ _ (omega arith))
+
+slice-aggregate-call-4 : tie.Need-slice-aggregate-call-4
+slice-aggregate-call-4 c = sym (length-take-le _ _ (omega arith))
+
+pub call-on-spec : {M : Type 1} → statement M
+call-on-spec =
+    tie.close
+    (tie.spec
+    (λ c. search needs)
+    (λ c. search needs)
+    (λ c. search needs)
+    (λ c. search needs)
+    slice-aggregate-call
+    slice-aggregate-call-2
+    (λ c. search needs)
+    slice-aggregate-call-3
+    (λ c. search needs)
+    slice-aggregate-call-4
+    (λ c κs. search needs)
+    (λ c. search needs)
+    (λ c. search needs)
+    (λ c. search needs))
