@@ -14,7 +14,7 @@ use Rattle.zone.specs.Words.{zoneAt}
 use Rattle.list.specs.Insert.{covered, outside}
 use Rattle.zone.proofs.Words.{same-zone}
 use Rattle.list.specs.Slots.{listAt, Holds, Kept}
-use Rattle.list.specs.Steps.{Copied, KeepsAs}
+use Rattle.list.specs.Steps.{Copied, KeepsAs, Sifting}
 use Rattle.list.proofs.Slots.{listAt-length, listAt-next, listAt-snoc, kept-refl, listAt-kept, listAt-copied, listAt-same, kept-trans, kept-within}
 
 pub nothing-left : (ws : List ℤ) (a n i : ℕ) → n ≤ i → listAt ws a (n - i) ≡ []
@@ -43,13 +43,6 @@ module _ (z : Zone) (ws : List ℤ) (base n i : ℕ) where
   covered-end h k = ap (covered z) (sym (nothing-left ws (base + i * 6) n i h)) ∙ k
 
 -- ---- the zones outside a new one
-
--- the first i of n zones have been gone through: those outside z are the first `kept`, and the rest are where they were
-pub record Sifting (z : Zone) (base n : ℕ) (ws₀ ws : List ℤ) (kept i : ℕ) : Type 0 where
-  pub fewer : kept ≤ i
-  pub most : i ≤ n
-  pub value : outside z (listAt ws₀ base n) ≡ listAt ws base kept ++ outside z (listAt ws (base + i * 6) (n - i))
-  pub frame : Kept base 768 ws₀ ws
 
 pub sift-start : (z : Zone) (base n : ℕ) (ws : List ℤ) → Sifting z base n ws ws 0 0
 unfolding listAt

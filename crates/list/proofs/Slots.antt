@@ -95,6 +95,10 @@ listAt-snoc ws base (suc n) =
 pub copied-none : (from to : ℕ) (ws : List ℤ) → Copied from to 0 ws ws
 copied-none from to ws = record { moved = λ k h. absurd (omega arith); kept = kept-refl to 0 ws }
 
+-- words that stand there already
+pub copied-there : {from to : ℕ} (n : ℕ) (ws : List ℤ) → from ≡ to → Copied from to n ws ws
+copied-there {from} n ws e = subst (λ (at : ℕ). Copied from at n ws ws) e (record { moved = λ k h. refl; kept = kept-refl from n ws })
+
 -- a word that is still to be copied has not been written
 unwritten : {from to n k : ℕ} {ws vs : List ℤ} → Copied from to k ws vs → (to ≤ from) ⊎ (from + n ≤ to) → k < n → word vs (from + k) ≡ word ws (from + k)
 unwritten c (inl h) l = c .kept .above _ (omega arith)

@@ -2,16 +2,18 @@
 use mathlib.Core.Path.{_≡_}
 use mathlib.Core.Bool.{Bool, true, false}
 use mathlib.Core.Logic.{_⊎_}
-use mathlib.Core.List.{List}
-use Prim.Native.Nat.{ℕ, _+_, _*_, _≤_, _<_}
+use mathlib.Core.List.{List, _++_}
+use Prim.Native.Nat.{ℕ, _+_, _-_, _*_, _≤_, _<_}
 use lib.IntN.{ℤ}
 use Rattle.zone.specs.declared.Zone.{Zone}
 use Rattle.zone.specs.Words.{word}
 use Rattle.zone.specs.declared.MaybeZone.{MaybeZone}
-use Rattle.list.specs.Insert.{Built, listed, overfull, insert-each}
+use Rattle.list.specs.Insert.{covered, outside, Built, listed, overfull, insert-each}
 use Rattle.list.specs.Star.{Outcome, finished, burst, Rounds, round}
 use Rattle.list.specs.Pieces.{Covered}
 use Rattle.list.specs.Slots.{listAt, Holds, Kept}
+use Rattle.list.specs.declared.Look.{Look}
+use Rattle.list.specs.declared.Look.the-variants.{Held, Clear}
 use Rattle.list.specs.declared.Grown.{Grown}
 use Rattle.list.specs.declared.Grown.the-variants.{Grew, TooMany}
 use Rattle.list.specs.declared.Round.{Round}
@@ -28,6 +30,18 @@ pub record Copied (from to n : ℕ) (ws vs : List ℤ) : Type 0 where
 abbrev pub KeepsAs : Bool → ℕ → ℕ → ℕ → List ℤ → List ℤ → ℕ → Type 0
 KeepsAs true from base kept ws vs r = (r ≡ kept) × (vs ≡ ws)
 KeepsAs false from base kept ws vs r = (r ≡ kept + 1) × Copied from (base + kept * 6) 6 ws vs
+
+-- the first i of n zones have been gone through: those outside z are the first `kept`, and the rest are where they were
+pub record Sifting (z : Zone) (base n : ℕ) (ws₀ ws : List ℤ) (kept i : ℕ) : Type 0 where
+  pub fewer : kept ≤ i
+  pub most : i ≤ n
+  pub value : outside z (listAt ws₀ base n) ≡ listAt ws base kept ++ outside z (listAt ws (base + i * 6) (n - i))
+  pub frame : Kept base 768 ws₀ ws
+
+-- a listed zone holds z; or the first k zones neither hold z nor lie inside it
+abbrev pub LookAs : Zone → List ℤ → ℕ → ℕ → Look → Type 0
+LookAs z ws base n Held = covered z (listAt ws base n) ≡ true
+LookAs z ws base n (Clear k) = (covered z (listAt ws (base + k * 6) (n - k)) ≡ covered z (listAt ws base n)) × Sifting z base n ws ws k k
 
 -- whether puts changed the list S into M: a mark in the place of a comparison. A zone that was placed stays covered, and was not before
 abbrev pub Mark : Bool → List Zone → List Zone → Type 0

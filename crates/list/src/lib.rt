@@ -16,7 +16,7 @@ ghost use Rattle.zone.specs.Zone.{Proper, Ranged, contains, diagonal};
 ghost use Rattle.list.specs.Insert.{covered, outside};
 ghost use Rattle.list.specs.Operators.{apply, pairs, union, meets, compositions, banded};
 ghost use Rattle.list.specs.Slots.{listAt, Slot, Source, Holds, Kept, KeptBoth, Disjoint, SoundBand, InsertAs, BuiltAs, StarAs};
-ghost use Rattle.list.specs.Steps.{Copied, KeepsAs, GrowsAs, RoundAs, EndsAs};
+ghost use Rattle.list.specs.Steps.{Copied, KeepsAs, Sifting, LookAs, GrowsAs, RoundAs, EndsAs};
 
 // What a put comes to: turned away, placed with the new count, or a list that would have 129 zones.
 pub enum Inserted {
@@ -47,6 +47,12 @@ pub enum Starred {
 enum Grown {
     Grew { count: usize, changed: bool },
     TooMany,
+}
+
+// What a new zone meets in a list: a zone that holds it, or so many at the front that neither hold it nor lie inside it.
+enum Look {
+    Held,
+    Clear(usize),
 }
 
 // A round: it changed nothing, or the new list has so many zones.
@@ -80,7 +86,7 @@ fn copy_words(words: &mut [i32], from: usize, to: usize, n: usize)
 
 // Whether the zone of six words w lies inside a listed one.
 fn covered(words: &[i32], base: usize, count: usize, w: &[i32]) -> bool
-    requires { ⌜ (Slot (now words) base count) × (6 ≤ length (now w)) ⌝ }
+    requires { ⌜ (count ≤ 128) × (base + count * 6 ≤ length (now words)) × (6 ≤ length (now w)) ⌝ }
     ensures { λ r. ⌜ r ≡ covered (zoneAt (now (w .entry)) 0) (listAt (now (words .entry)) base count) ⌝ }
 {
     let mut i = 0;
@@ -93,6 +99,25 @@ fn covered(words: &[i32], base: usize, count: usize, w: &[i32]) -> bool
     false
 }
 
+// Goes over a list up to the first zone that holds the one of six words w, or lies inside it.
+fn look_over(words: &[i32], base: usize, count: usize, w: &[i32]) -> Look
+    requires { ⌜ (Slot (now words) base count) × (6 ≤ length (now w)) ⌝ }
+    ensures { λ r. ⌜ LookAs (zoneAt (now (w .entry)) 0) (now (words .entry)) base count r ⌝ }
+{
+    let mut i = 0;
+    while i < count {
+        let at = base + i * 6;
+        if zone::included(w, 0, words, at) {
+            return Look::Held;
+        }
+        if zone::included(words, at, w, 0) {
+            return Look::Clear(i);
+        }
+        i += 1;
+    }
+    Look::Clear(i)
+}
+
 // Keeps the i-th zone, behind the first `kept`, unless it lies inside the one of six words w; answers how many are kept.
 fn keep_outside(words: &mut [i32], base: usize, i: usize, kept: usize, w: &[i32]) -> usize
     requires { ⌜ (kept ≤ i) × (i < 128) × (base + 768 ≤ length (now words)) × (6 ≤ length (now w)) ⌝ }
@@ -101,18 +126,22 @@ fn keep_outside(words: &mut [i32], base: usize, i: usize, kept: usize, w: &[i32]
     if zone::included(words, base + i * 6, w, 0) {
         return kept;
     }
+    if kept == i {
+        return kept + 1; // it stands there already
+    }
     copy_words(words, base + i * 6, base + kept * 6, 6);
     kept + 1
 }
 
-// Removes the listed zones inside the one of six words w, the rest keeping their order; answers how many are left.
-fn remove_inside(words: &mut [i32], base: usize, count: usize, w: &[i32]) -> usize
-    requires { ⌜ (Slot (now words) base count) × (6 ≤ length (now w)) ⌝ }
+// Removes the listed zones inside the one of six words w, none of which is among the first `clear`, the rest keeping
+// their order; answers how many are left.
+fn remove_inside(words: &mut [i32], base: usize, count: usize, clear: usize, w: &[i32]) -> usize
+    requires { ⌜ (Slot (now words) base count) × (6 ≤ length (now w)) × (Sifting (zoneAt (now w) 0) base count (now words) (now words) clear clear) ⌝ }
     ensures left { λ r. ⌜ Holds (now (words .exit)) base r (outside (zoneAt (now (w .entry)) 0) (listAt (now (words .entry)) base count)) ⌝ }
     ensures kept { λ _. ⌜ Kept base 768 (now (words .entry)) (now (words .exit)) ⌝ }
 {
-    let mut kept = 0;
-    let mut i = 0;
+    let mut kept = clear;
+    let mut i = clear;
     while i < count {
         kept = keep_outside(words, base, i, kept, w);
         i += 1;
@@ -127,10 +156,14 @@ pub fn insert(words: &mut [i32], base: usize, count: usize, z: Zone) -> Inserted
 {
     let mut w = [0i32; 6];
     zone::write_zone(&mut w, 0, z);
-    if covered(words, base, count, &w) {
+    // Most often no zone at all holds the new one or lies inside it, and this is the only scan.
+    let Look::Clear(clear) = look_over(words, base, count, &w) else {
+        return Inserted::Away;
+    };
+    if covered(words, base + clear * 6, count - clear, &w) {
         return Inserted::Away;
     }
-    let kept = remove_inside(words, base, count, &w);
+    let kept = remove_inside(words, base, count, clear, &w);
     if 128 <= kept {
         return Inserted::Full;
     }

@@ -1,4 +1,5 @@
-use Rattle.list.proofs.Scan.{Sifting, sift-start, sift-step, sift-end}
+use Rattle.list.specs.Steps.{Sifting}
+use Rattle.list.proofs.Scan.{sift-step, sift-end}
 use Rattle.zone.specs.Words.{zoneAt}
 use native.Mathlib.Omega.{arith}
 use Prim.Native.Nat.{_-_}
@@ -9,13 +10,13 @@ use Rattle.list.proofs.remove_inside.Lts as lts
 use Rattle.list.proofs.keep_outside.Reads as keep-outside-reads
 
 abbrev Inv-loop : tie.InvT-loop
-Inv-loop words₀ base count w kept₀ i₀ words kept i = Sifting (zoneAt w 0) base count words₀ words kept i
+Inv-loop words₀ base count clear w kept₀ i₀ words kept i = Sifting (zoneAt w 0) base count words₀ words kept i
 
 abbrev μ-loop : tie.MeasureT-loop
-μ-loop words₀ base count w kept₀ i₀ words kept i = count - i
+μ-loop words₀ base count clear w kept₀ i₀ words kept i = count - i
 
 loop-holds : tie.Need-loop-holds Inv-loop μ-loop
-loop-holds c = sift-start _ _ _ _
+loop-holds c = c .pre .2
 
 keep-outside-requires : tie.Need-keep-outside-requires Inv-loop μ-loop
 keep-outside-requires c κs = (c .before .before .loop .inv .fewer, omega arith, omega (arith, c .before .before .loop .inv .frame .same-length), c .before .before .before .pre .1)
