@@ -1,0 +1,409 @@
+//! Times of the proved library beside the plain matcher, on the same inputs in one run.
+
+use std::hint::black_box;
+use std::time::{Duration, Instant};
+
+use crate::examples::{pulses, recording};
+use crate::finder::{self, Returned, WORK_WORDS};
+use crate::proved::{self, Proved};
+use crate::random::Rng;
+use crate::recording::{encode, tick, Change, Head, MAX_LENGTH, RECORD};
+use crate::zone::WORDS;
+use crate::zones::MAX_ZONES;
+
+/// One call to be timed.
+struct Row {
+    /// What sets it apart from the other rows of its table.
+    name: String,
+    recording: Vec<u8>,
+    drill: String,
+}
+
+impl Row {
+    fn new(name: impl Into<String>, recording: Vec<u8>, drill: impl Into<String>) -> Row {
+        Row {
+            name: name.into(),
+            recording,
+            drill: drill.into(),
+        }
+    }
+}
+
+/// Prints the tables, or says where the finders do not agree.
+pub fn run() -> Result<(), String> {
+    let proved = proved::linked();
+    println!("Times in microseconds, the best of many calls, the two finders by turns.");
+    println!("Buffers are not cleared before a call: each finds them as the one before left them.");
+    println!("Both clear the first 16,384 work words themselves, which is part of every time.");
+    if proved.is_none() {
+        println!("The proved library is not linked (--features proved): plain times alone.");
+    }
+    for (title, rows) in tables() {
+        print_table(title, &rows, proved)?;
+    }
+    Ok(())
+}
+
+fn tables() -> Vec<(&'static str, Vec<Row>)> {
+    vec![
+        ("Concatenation on random channels", concatenations()),
+        ("Star ((a.b){0,r})* for falling r", falling_bands()),
+        ("Oscillation, as in document 004", oscillations()),
+        ("Star over many zones for many rounds", crowded_stars()),
+        ("Reading the largest recording", largest_recordings()),
+        ("A sheet's worth of ordinary drills", ordinary_drills()),
+        ("Growth with the zones", growth_with_zones()),
+        ("Growth with the rounds", growth_with_rounds()),
+        ("Growth with the changes", growth_with_changes()),
+    ]
+}
+
+fn print_table(title: &str, rows: &[Row], proved: Option<Proved>) -> Result<(), String> {
+    println!("\n{title}");
+    println!(
+        "{:<44} {:>7} {:>5} {:>7} {:>11} {:>11} {:>7}",
+        "", "number", "zones", "rounds", "plain", "proved", "ratio"
+    );
+    let mut sums = (0.0, proved.map(|_| 0.0));
+    for row in rows {
+        let (plain, theirs) = print_row(row, proved)?;
+        sums.0 += plain;
+        sums.1 = sums.1.zip(theirs).map(|(sum, time)| sum + time);
+    }
+    println!("{:<44} {:>21} {}", "sum", "", times(sums));
+    Ok(())
+}
+
+/// The last three columns: both times in microseconds, and proved by plain.
+fn times((plain, theirs): (f64, Option<f64>)) -> String {
+    match theirs {
+        Some(theirs) => format!("{plain:>11.2} {theirs:>11.2} {:>7.2}", theirs / plain),
+        None => format!("{plain:>11.2} {:>11} {:>7}", "-", "-"),
+    }
+}
+
+/// Prints a row and gives its times.
+fn print_row(row: &Row, proved: Option<Proved>) -> Result<(f64, Option<f64>), String> {
+    let mut plain = Bench::new(row);
+    let returned = plain.plain();
+    let mut theirs = Bench::new(row);
+    if let Some(proved) = proved {
+        let their_return = theirs.proved(proved);
+        if their_return != returned || theirs.answer != plain.answer {
+            return Err(format!("{}: {their_return:?}, not {returned:?}", row.name));
+        }
+    }
+    let best = by_turns(&mut plain, &mut theirs, proved);
+    println!(
+        "{:<44} {:>7} {:>5} {:>7} {}",
+        row.name,
+        returned.number,
+        returned.zones,
+        returned.rounds,
+        times(best)
+    );
+    Ok(best)
+}
+
+/// A row with buffers of its own.
+struct Bench<'a> {
+    row: &'a Row,
+    answer: Vec<i32>,
+    work: Vec<i32>,
+}
+
+impl Bench<'_> {
+    fn new(row: &Row) -> Bench<'_> {
+        Bench {
+            row,
+            answer: vec![-1; MAX_ZONES * WORDS],
+            work: vec![-1; WORK_WORDS],
+        }
+    }
+
+    fn plain(&mut self) -> Returned {
+        let (recording, drill) = (&self.row.recording, self.row.drill.as_bytes());
+        finder::find(recording, drill, &mut self.answer, &mut self.work)
+    }
+
+    fn proved(&mut self, proved: Proved) -> Returned {
+        let (recording, drill) = (&self.row.recording, self.row.drill.as_bytes());
+        let mut counts = [0; 2];
+        let (answer, work) = (&mut self.answer, &mut self.work);
+        let number = (proved.find)(recording, drill, answer, work, &mut counts);
+        let [zones, rounds] = counts;
+        Returned {
+            number,
+            zones,
+            rounds,
+        }
+    }
+}
+
+/// Calls each finder over and over, a few times one and then the other, and keeps the best time
+/// of each in microseconds.
+fn by_turns(plain: &mut Bench, theirs: &mut Bench, proved: Option<Proved>) -> (f64, Option<f64>) {
+    const TURNS: u32 = 5;
+    let mut best = [f64::INFINITY; 2];
+    for _ in 0..TURNS {
+        best[0] = best[0].min(best_of_many(|| plain.plain()));
+        if let Some(proved) = proved {
+            best[1] = best[1].min(best_of_many(|| theirs.proved(proved)));
+        }
+    }
+    (best[0], proved.map(|_| best[1]))
+}
+
+fn best_of_many(mut call: impl FnMut() -> Returned) -> f64 {
+    const LEAST_TIME: Duration = Duration::from_millis(15);
+    const LEAST_CALLS: u32 = 8;
+    let begin = Instant::now();
+    let mut best = Duration::MAX;
+    let mut calls = 0;
+    while calls < LEAST_CALLS || begin.elapsed() < LEAST_TIME {
+        let start = Instant::now();
+        black_box(call());
+        best = best.min(start.elapsed());
+        calls += 1;
+    }
+    best.as_secs_f64() * 1e6
+}
+
+/// The first recording that `make` gives for seeds 0, 1, ... in which all drills find something.
+fn accepted(make: impl Fn(&mut Rng) -> Vec<u8>, drills: &[&str]) -> Vec<u8> {
+    const BUDGET: u64 = 20_000_000;
+    let accepts = |recording: &Vec<u8>| {
+        let mut answer = vec![0; MAX_ZONES * WORDS];
+        let mut work = vec![0; WORK_WORDS];
+        drills.iter().all(|drill| {
+            let drill = drill.as_bytes();
+            finder::find_within(recording, drill, &mut answer, &mut work, BUDGET)
+                .is_some_and(|found| found.returned.is_accepted() && found.returned.zones > 0)
+        })
+    };
+    (0..2_000)
+        .map(|seed| make(&mut Rng::new(seed, 0)))
+        .find(accepts)
+        .unwrap_or_else(|| panic!("no recording is accepted for {drills:?}"))
+}
+
+/// Sorted random ticks, all different, below `ticks`.
+fn switching_ticks(rng: &mut Rng, count: usize, ticks: u32) -> Vec<u32> {
+    let mut chosen = std::collections::BTreeSet::new();
+    while chosen.len() < count {
+        chosen.insert(rng.between(0, ticks - 1));
+    }
+    chosen.into_iter().collect()
+}
+
+/// A recording in which channel k switches at the k-th list of ticks.
+fn channels_switching(ticks: u32, switches: &[Vec<u32>]) -> Vec<u8> {
+    let mut all: Vec<(u32, u16)> = Vec::new();
+    for (channel, ticks) in switches.iter().enumerate() {
+        all.extend(ticks.iter().map(|&tick| (tick, 1 << channel)));
+    }
+    all.sort_unstable();
+    let mut changes: Vec<Change> = Vec::new();
+    let mut levels = 0;
+    for (at, switched) in all {
+        levels ^= switched;
+        match changes.last_mut() {
+            Some(last) if tick(last.time) == at => last.levels = levels,
+            _ => changes.push(Change {
+                time: 10 * at,
+                levels,
+            }),
+        }
+    }
+    let head = Head {
+        duration: 10 * ticks,
+        channels: switches.len() as u8,
+    };
+    encode(head, &changes)
+}
+
+fn concatenations() -> Vec<Row> {
+    let drill = "a.b";
+    let mut rows: Vec<Row> = [8, 16, 32, 60]
+        .into_iter()
+        .map(|runs| {
+            let make = |rng: &mut Rng| {
+                let ticks = 40 * runs as u32;
+                let switches = [0, 1].map(|_| switching_ticks(rng, 2 * runs, ticks));
+                channels_switching(ticks, &switches)
+            };
+            let name = format!("a.b, {runs} runs each, anywhere");
+            Row::new(name, accepted(make, &[drill]), drill)
+        })
+        .collect();
+    rows.push(Row::new(
+        "a.b, 128 runs each, in pairs",
+        accepted(paired_runs, &[drill]),
+        drill,
+    ));
+    // One more, and the runs of !a would be too many.
+    rows.push(Row::new("a.!a, 127 runs", pulses(127), "a.!a"));
+    rows
+}
+
+/// 128 runs of each of two channels, one of each in every 20 ticks, so that a list has room for
+/// all that comes of them.
+fn paired_runs(rng: &mut Rng) -> Vec<u8> {
+    let mut switches = [Vec::new(), Vec::new()];
+    for slot in 0..MAX_ZONES as u32 {
+        for channel in &mut switches {
+            let ticks = switching_ticks(rng, 2, 18);
+            channel.extend(ticks.iter().map(|tick| 20 * slot + tick));
+        }
+    }
+    channels_switching(20 * MAX_ZONES as u32, &switches)
+}
+
+fn falling_bands() -> Vec<Row> {
+    let bands = [128, 64, 32, 16, 8, 4];
+    let make = |rng: &mut Rng| {
+        let switches = [0, 1].map(|_| switching_ticks(rng, 24, 1200));
+        channels_switching(1200, &switches)
+    };
+    let drills = bands.map(|r| format!("((a.b){{0,{r}}})*"));
+    let recording = accepted(make, &drills.each_ref().map(String::as_str));
+    let rows = bands.into_iter().zip(drills);
+    rows.map(|(r, drill)| Row::new(format!("r = {r}"), recording.clone(), drill))
+        .collect()
+}
+
+/// The paper's expression, with its times as ticks: both channels switch rapidly for a while.
+const OSCILLATION: &str = "(((a.!a){0,10})*&((b.!b){0,10})*){80,}";
+
+fn oscillations() -> Vec<Row> {
+    [1, 2, 4, 8]
+        .into_iter()
+        .map(|segments| {
+            let make = |rng: &mut Rng| segmented(rng, segments);
+            let name = format!("{segments} segments of 400 ticks");
+            let recording = accepted(make, &[OSCILLATION]);
+            Row::new(name, recording, OSCILLATION)
+        })
+        .collect()
+}
+
+/// Segments of 400 ticks in which both channels switch together, rapidly at the start, and then
+/// settle. A list has room for the stretches of one segment that oscillates for long enough, so
+/// the others do so for less.
+fn segmented(rng: &mut Rng, segments: u32) -> Vec<u8> {
+    let lively = rng.below(segments.into()) as u32;
+    let mut switches = [Vec::new(), Vec::new()];
+    for segment in 0..segments {
+        let (mut at, end) = (400 * segment, 400 * (segment + 1) - 20);
+        let mut left = if segment == lively { 21 } else { 3 };
+        let mut pause = 8;
+        while at < end {
+            switches[0].push(at);
+            switches[1].push(at + u32::from(rng.once_in(4)));
+            if left > 0 {
+                left -= 1;
+                at += 4 + u32::from(rng.once_in(3));
+            } else {
+                pause *= 2;
+                at += pause;
+            }
+        }
+    }
+    channels_switching(400 * segments, &switches)
+}
+
+fn crowded_stars() -> Vec<Row> {
+    let apart = |runs: u32, length: u32| {
+        let changes: Vec<(u32, u16)> = (0..runs)
+            .flat_map(|k| [(k, 0, 1), (k, length, 0)])
+            .map(|(k, after, level)| (10 * (k * (length + 5) + after), level))
+            .collect();
+        recording(10 * runs * (length + 5), 1, &changes)
+    };
+    vec![
+        Row::new("(a{0,1})*, 64 runs of 200", apart(64, 200), "(a{0,1})*"),
+        Row::new("(a{0,1})*, 127 runs of 200", apart(127, 200), "(a{0,1})*"),
+        Row::new(
+            "(a{0,2}.a{0,1})*, 100 runs of 300",
+            apart(100, 300),
+            "(a{0,2}.a{0,1})*",
+        ),
+        Row::new("(a{1,1})*, one run of 120", apart(1, 120), "(a{1,1})*"),
+        Row::new(
+            "(a{3,3}|a{7,7})*, one run of 100",
+            apart(1, 100),
+            "(a{3,3}|a{7,7})*",
+        ),
+    ]
+}
+
+/// As many changes as a recording holds, each on a tick of its own, on channels b to p.
+fn many_changes(changes: u32) -> Vec<u8> {
+    let changes: Vec<(u32, u16)> = (0..changes)
+        .map(|k| (10 * k, 1 << (1 + k % 15) | u16::from(k >= 100)))
+        .collect();
+    recording(10 * MAX_LENGTH as u32, 16, &changes)
+}
+
+fn largest_recordings() -> Vec<Row> {
+    let most = (MAX_LENGTH / RECORD - 1) as u32;
+    vec![
+        Row::new("_", many_changes(most), "_"),
+        Row::new("a", many_changes(most), "a"),
+        Row::new("a.!a|a&!a", many_changes(most), "a.!a|a&!a"),
+    ]
+}
+
+/// Ten minutes with six switches: a indicator, b mirror, c steering, d brake, e platform at full
+/// stroke, f clutch.
+fn ordinary_drive(rng: &mut Rng) -> Vec<u8> {
+    let runs = [12, 30, 20, 25, 6, 28];
+    let switches = runs.map(|runs| switching_ticks(rng, 2 * runs, 60_000));
+    channels_switching(60_000, &switches)
+}
+
+fn ordinary_drills() -> Vec<Row> {
+    let drills = [
+        "b.a{200,500}.c",
+        "(b&!a).a{100,}",
+        "a&b&!c",
+        "(d.!d){0,300}.f",
+        "d{50,}&!e",
+        "((d.!d){0,900})*{1000,}",
+        "e.(!e&!f){0,400}",
+        "(b.!b){0,1500}&(a|!a.a)",
+        "(f.!f.f){0,2000}",
+        "b.(!b&!a){0,1500}.(a&!b){100,}.(c&a)",
+    ];
+    let recording = accepted(ordinary_drive, &drills);
+    drills
+        .into_iter()
+        .map(|drill| Row::new(drill, recording.clone(), drill))
+        .collect()
+}
+
+fn growth_with_zones() -> Vec<Row> {
+    let runs = [8, 16, 32, 64, 127];
+    let drills = ["a", "a.!a", "a&a", "a|a{1,1}"];
+    let pairs = drills.iter().flat_map(|drill| runs.map(|n| (drill, n)));
+    pairs
+        .map(|(drill, n)| Row::new(format!("{drill}, {n} runs"), pulses(n), *drill))
+        .collect()
+}
+
+fn growth_with_rounds() -> Vec<Row> {
+    [10, 100, 1_000, 10_000, 100_000]
+        .into_iter()
+        .map(|ticks| {
+            let name = format!("(a{{0,1}})*, one run of {ticks}");
+            Row::new(name, recording(10 * ticks, 1, &[(0, 1)]), "(a{0,1})*")
+        })
+        .collect()
+}
+
+fn growth_with_changes() -> Vec<Row> {
+    [0, 255, 511, 1_023, 2_047, 4_095]
+        .into_iter()
+        .map(|changes| Row::new(format!("a, {changes} changes"), many_changes(changes), "a"))
+        .collect()
+}

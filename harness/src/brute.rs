@@ -1,0 +1,477 @@
+//! Brute force: Definition 3 of the paper, by trying fractions for the cuts. No zones.
+//!
+//! A table says of every stretch whose ends lie on a grid of 1/N ticks whether it fits. The table
+//! of an operator comes from those of its operands, by Definition 3 word for word, with the cuts
+//! tried on the grid too.
+//!
+//! # How fine the grid must be
+//!
+//! A cut may be any fraction, so a table with cuts on the grid alone ([`on_grid`]) can be trusted
+//! where it says yes (there are the pieces), but may say no too often: on a grid of thirds, `a.a`
+//! does not fit a stretch of length 1/3, whose cuts lie strictly inside. Nested cuts need finer
+//! and finer fractions, and a star has no largest number of them. [`exact`] gets by with sixths,
+//! for every drill:
+//!
+//! *Moving times.* Let h be an increasing bijection of the times, piecewise linear with fractions
+//! for its corners, that fixes 0 and has h(t + 1) = h(t) + 1. It takes fractions to fractions and
+//! keeps whole ticks where they are. It keeps the order of times, and as t' - t ≤ c holds just
+//! when t' ≤ t + c does, it keeps every comparison of a length with a whole number. So whatever
+//! Definition 3 says of a stretch and its cuts, it says of them moved by h: a stretch fits a drill
+//! just when the moved stretch does.
+//!
+//! *Ends on thirds.* Such an h takes one stretch to another when their ends lie in the same ticks
+//! and their fractional parts are ordered alike, with each other and with 0. Two fractional parts
+//! have few orders, and each is found among 0, 1/3 and 2/3. So every stretch has one with ends on
+//! thirds that stands in for it ([`stand_in`]).
+//!
+//! *Cuts on sixths.* Take a stretch with ends on thirds and a cut anywhere. The fractional part of
+//! the cut is that of an end, or 0, or lies in a gap between those and 1. A gap is at least a third
+//! wide, so it holds a sixth, and some h moves the cut there and leaves the ends alone. So trying
+//! the cuts on sixths is as good as trying all, if the operands' tables are right on all sixths.
+//!
+//! So a composition is right for ends on thirds, and then each stretch on sixths takes the answer
+//! of the one that stands in for it ([`Table::settle`]): the table is right on all sixths again.
+
+use crate::drill::{Band, Drill};
+use crate::recording::Recording;
+use crate::zone::Zone;
+
+/// Parts of a tick in a table that is right in both directions.
+pub const EXACT_PARTS: usize = 6;
+
+/// For each stretch with its ends on a grid, a bit.
+#[derive(Clone, Debug, PartialEq, Eq)]
+pub struct Table {
+    /// Parts of a tick.
+    parts: usize,
+    /// Times on the grid, from 0 to d.
+    times: usize,
+    /// 64-bit words in a row.
+    width: usize,
+    /// A row for each start, in it a bit for each end.
+    bits: Vec<u64>,
+}
+
+/// The stretches that fit, ends on sixths, cuts anywhere.
+pub fn exact(drill: &Drill, recording: &Recording) -> Table {
+    let grid = Grid {
+        levels: recording.levels(),
+        parts: EXACT_PARTS,
+        settled: true,
+    };
+    grid.fits(drill)
+}
+
+/// The stretches that fit with their ends and all their cuts on a grid of 1/N, N being `parts`.
+pub fn on_grid(drill: &Drill, recording: &Recording, parts: usize) -> Table {
+    let grid = Grid {
+        levels: recording.levels(),
+        parts,
+        settled: false,
+    };
+    grid.fits(drill)
+}
+
+/// Parts of a tick with which [`on_grid`] is right in both directions for ends on thirds: with k
+/// cuts in all, a gap of a third between fractional parts may have to hold k different ones. None
+/// for a drill with a star, whose cuts have no largest number.
+pub fn parts_without_moving(drill: &Drill) -> Option<usize> {
+    let stars = drill.count(&|part| matches!(part, Drill::Star(_)));
+    let cuts = drill.count(&|part| matches!(part, Drill::Then(..)));
+    (stars == 0).then_some(3 * (cuts + 1))
+}
+
+/// The stretches on a grid that lie in some zone of a list.
+pub fn of_zones(zones: &[Zone], ticks: usize, parts: usize) -> Table {
+    let mut table = Table::new(ticks, parts);
+    for (start, end) in table.stretches() {
+        let (s, e) = (start as i64, end as i64);
+        if zones.iter().any(|zone| zone.has(s, e, parts as i64)) {
+            table.add(start, end);
+        }
+    }
+    table
+}
+
+/// The longest drive, in ticks, that is also tried on a fine grid without moving a cut.
+const MAX_FINE_TICKS: usize = 40;
+/// Parts of a tick in that grid.
+const FINE_PARTS: usize = 12;
+
+/// Holds a list of zones to the meaning of the drill: a stretch with ends on sixths must lie in
+/// some zone just when it fits. Gives the number of stretches compared, or what is wrong.
+pub fn compare(drill: &Drill, recording: &Recording, zones: &[Zone]) -> Result<usize, String> {
+    let ticks = recording.ticks() as usize;
+    let fit = exact(drill, recording);
+    let listed = of_zones(zones, ticks, EXACT_PARTS);
+    report(fit.beyond(&listed), EXACT_PARTS, "fits and lies in no zone")?;
+    report(
+        listed.beyond(&fit),
+        EXACT_PARTS,
+        "lies in a zone and does not fit",
+    )?;
+    if ticks > MAX_FINE_TICKS {
+        return Ok(fit.size());
+    }
+    // A yes found without moving anything needs no argument about grids.
+    let fine = on_grid(drill, recording, FINE_PARTS);
+    let fine_listed = of_zones(zones, ticks, FINE_PARTS);
+    report(
+        fine.beyond(&fine_listed),
+        FINE_PARTS,
+        "fits and lies in no zone",
+    )?;
+    // Where this grid is fine enough for all cuts, its no needs none either.
+    if parts_without_moving(drill).is_some_and(|parts| parts <= FINE_PARTS) {
+        let (fine, fit) = (fine.coarsened(3), fit.coarsened(3));
+        report(fit.beyond(&fine), 3, "fits only where cuts are moved")?;
+        report(fine.beyond(&fit), 3, "fits only where cuts are not moved")?;
+    }
+    Ok(fit.size() + fine.size())
+}
+
+fn report(found: Option<(usize, usize)>, parts: usize, fault: &str) -> Result<(), String> {
+    found.map_or(Ok(()), |(start, end)| {
+        Err(format!(
+            "the stretch {start}/{parts} to {end}/{parts} {fault}"
+        ))
+    })
+}
+
+struct Grid {
+    /// The levels in each tick.
+    levels: Vec<u16>,
+    parts: usize,
+    /// Whether each composition is settled, so that cuts off the grid count too.
+    settled: bool,
+}
+
+impl Grid {
+    fn fits(&self, drill: &Drill) -> Table {
+        match drill {
+            Drill::Empty => self.diagonal(),
+            Drill::Letter { channel, high } => self.letter(*channel, *high),
+            Drill::Then(left, right) => self.compose(&self.fits(left), &self.fits(right)),
+            Drill::Both(left, right) => self.fits(left).combine(&self.fits(right), |l, r| l & r),
+            Drill::Either(left, right) => self.fits(left).combine(&self.fits(right), |l, r| l | r),
+            Drill::Within(inner, band) => self.within(&self.fits(inner), *band),
+            Drill::Star(inner) => self.star(self.fits(inner)),
+        }
+    }
+
+    fn empty(&self) -> Table {
+        Table::new(self.levels.len(), self.parts)
+    }
+
+    fn diagonal(&self) -> Table {
+        let mut table = self.empty();
+        for time in 0..table.times {
+            table.add(time, time);
+        }
+        table
+    }
+
+    fn letter(&self, channel: u8, high: bool) -> Table {
+        let mut table = self.empty();
+        let fits = |levels: &u16| (levels >> channel & 1 == 1) == high;
+        for (start, end) in table.stretches() {
+            // The ticks that the open stretch overlaps.
+            let ticks = start / self.parts..end.div_ceil(self.parts);
+            if start < end && self.levels[ticks].iter().all(fits) {
+                table.add(start, end);
+            }
+        }
+        table
+    }
+
+    fn within(&self, inner: &Table, band: Band) -> Table {
+        let mut table = self.empty();
+        let from = band.lo as usize * self.parts;
+        let to = band.hi.map_or(usize::MAX, |hi| hi as usize * self.parts);
+        for (start, end) in inner.stretches() {
+            if inner.has(start, end) && (from..=to).contains(&(end - start)) {
+                table.add(start, end);
+            }
+        }
+        table
+    }
+
+    /// For each start and each cut that the left part reaches, the ends of the right part.
+    fn compose(&self, left: &Table, right: &Table) -> Table {
+        let mut table = self.empty();
+        for start in 0..table.times {
+            for cut in start..table.times {
+                if left.has(start, cut) {
+                    table.add_ends(start, right, cut);
+                }
+            }
+        }
+        if self.settled {
+            table.settle();
+        }
+        table
+    }
+
+    /// The stretches of no piece or of one; then, as long as there are more, of twice as many.
+    fn star(&self, inner: Table) -> Table {
+        let mut reach = inner.combine(&self.diagonal(), |l, r| l | r);
+        loop {
+            let further = self.compose(&reach, &reach);
+            // A piece of length 0 fits, so what was reached is reached still.
+            if further == reach {
+                return reach;
+            }
+            reach = further;
+        }
+    }
+}
+
+impl Table {
+    fn new(ticks: usize, parts: usize) -> Table {
+        let times = ticks * parts + 1;
+        let width = times.div_ceil(64);
+        Table {
+            parts,
+            times,
+            width,
+            bits: vec![0; times * width],
+        }
+    }
+
+    /// Whether the stretch fits, its ends in parts of a tick.
+    pub fn has(&self, start: usize, end: usize) -> bool {
+        self.bits[start * self.width + end / 64] >> (end % 64) & 1 == 1
+    }
+
+    fn add(&mut self, start: usize, end: usize) {
+        self.bits[start * self.width + end / 64] |= 1 << (end % 64);
+    }
+
+    /// Adds, for one start, all ends that another table has for a start of its own.
+    fn add_ends(&mut self, start: usize, other: &Table, other_start: usize) {
+        let ends = &other.bits[other_start * other.width..][..other.width];
+        let row = &mut self.bits[start * self.width..][..self.width];
+        row.iter_mut()
+            .zip(ends)
+            .for_each(|(word, ends)| *word |= ends);
+    }
+
+    fn combine(&self, other: &Table, bit: impl Fn(u64, u64) -> u64) -> Table {
+        let pairs = self.bits.iter().zip(&other.bits);
+        Table {
+            bits: pairs.map(|(&l, &r)| bit(l, r)).collect(),
+            ..*self
+        }
+    }
+
+    /// All stretches of the grid.
+    pub fn stretches(&self) -> impl Iterator<Item = (usize, usize)> {
+        let times = self.times;
+        (0..times).flat_map(move |start| (start..times).map(move |end| (start, end)))
+    }
+
+    /// Gives each stretch on sixths the answer of the one on thirds that stands in for it.
+    fn settle(&mut self) {
+        let unsettled = self.clone();
+        self.bits.fill(0);
+        for (start, end) in unsettled.stretches() {
+            let (s, e) = stand_in(start, end);
+            if unsettled.has(s, e) {
+                self.add(start, end);
+            }
+        }
+    }
+
+    /// How many stretches the grid has.
+    pub fn size(&self) -> usize {
+        self.times * (self.times + 1) / 2
+    }
+
+    /// The first stretch that this table has and another one, on the same grid, has not.
+    pub fn beyond(&self, other: &Table) -> Option<(usize, usize)> {
+        self.stretches()
+            .find(|&(start, end)| self.has(start, end) && !other.has(start, end))
+    }
+
+    /// The same answers for fewer stretches: those with ends on a grid of `parts`, which must
+    /// divide this one's.
+    pub fn coarsened(&self, parts: usize) -> Table {
+        let step = self.parts / parts;
+        let mut table = Table::new((self.times - 1) / self.parts, parts);
+        for (start, end) in table.stretches() {
+            if self.has(start * step, end * step) {
+                table.add(start, end);
+            }
+        }
+        table
+    }
+}
+
+/// The stretch with ends on thirds that fits what this one fits, both in sixths: the ends stay in
+/// their ticks, the smaller fractional part above 0 becomes 1/3, the larger 2/3.
+pub fn stand_in(start: usize, end: usize) -> (usize, usize) {
+    let (s, e) = (start % EXACT_PARTS, end % EXACT_PARTS);
+    let third = |part: usize, other: usize| match part {
+        0 => 0,
+        _ if 0 < other && other < part => 4,
+        _ => 2,
+    };
+    (start - s + third(s, e), end - e + third(e, s))
+}
+
+#[cfg(test)]
+mod tests {
+    use super::*;
+    use crate::examples::recording_r;
+    use crate::random::{self, Rng, Taste};
+    use crate::recording::Head;
+
+    fn drill(text: &str) -> Drill {
+        Drill::read(text.as_bytes(), 1).expect(text)
+    }
+
+    /// Whether a drill fits a stretch of R, its ends in sixths.
+    fn fits_r(text: &str, start: usize, end: usize) -> bool {
+        let bytes = recording_r();
+        let recording = Recording::read(&bytes).unwrap();
+        exact(&drill(text), &recording).has(start, end)
+    }
+
+    /// Definition 3 for one stretch, by plain recursion over the cuts of a grid.
+    fn fits_directly(drill: &Drill, levels: &[u16], parts: usize, s: usize, e: usize) -> bool {
+        let fits = |drill: &Drill, s, e| fits_directly(drill, levels, parts, s, e);
+        match drill {
+            Drill::Empty => s == e,
+            Drill::Letter { channel, high } => {
+                let high_at = |part: usize| levels[part / parts] >> channel & 1 == 1;
+                s < e && (s..e).all(|part| high_at(part) == *high)
+            }
+            Drill::Then(left, right) => {
+                (s..=e).any(|cut| fits(left, s, cut) && fits(right, cut, e))
+            }
+            Drill::Both(left, right) => fits(left, s, e) && fits(right, s, e),
+            Drill::Either(left, right) => fits(left, s, e) || fits(right, s, e),
+            Drill::Within(inner, band) => {
+                let long_enough = e - s >= band.lo as usize * parts;
+                let short_enough = band.hi.is_none_or(|hi| e - s <= hi as usize * parts);
+                long_enough && short_enough && fits(inner, s, e)
+            }
+            // Pieces of length 0 add nothing, so the first piece may be taken longer than that.
+            Drill::Star(inner) => {
+                s == e || (s + 1..=e).any(|cut| fits(inner, s, cut) && fits(drill, cut, e))
+            }
+        }
+    }
+
+    #[test]
+    fn cuts_need_not_be_whole_ticks() {
+        assert!(fits_r("a.a", 12, 18));
+        let bytes = recording_r();
+        let recording = Recording::read(&bytes).unwrap();
+        assert!(!on_grid(&drill("a.a"), &recording, 1).has(2, 3));
+    }
+
+    #[test]
+    fn cuts_need_not_be_on_the_grid_of_the_ends() {
+        // From 2 to 2 1/6, cut strictly inside as often as the drill asks.
+        assert!(fits_r("a.a", 12, 13));
+        assert!(fits_r("a.a.a.a.a.a.a.a", 12, 13));
+        assert!(fits_r("(a{0,1}.a)*", 12, 13));
+    }
+
+    #[test]
+    fn a_sequence_of_letters_has_a_length() {
+        assert!(!fits_r("a.a", 12, 12));
+        assert!(!fits_r("a", 24, 24) && fits_r("a*", 24, 24));
+    }
+
+    #[test]
+    fn every_stretch_has_its_levels() {
+        let bytes = recording_r();
+        let recording = Recording::read(&bytes).unwrap();
+        let table = exact(&drill("(a|!a)*"), &recording);
+        assert_eq!(table.size(), 61 * 62 / 2);
+        assert!(table.stretches().all(|(start, end)| table.has(start, end)));
+    }
+
+    #[test]
+    fn stand_ins_lie_on_thirds_and_stand_for_themselves() {
+        for start in 0..24 {
+            for end in start..24 {
+                let (s, e) = stand_in(start, end);
+                assert!(s % 2 == 0 && e % 2 == 0 && s <= e);
+                assert_eq!(stand_in(s, e), (s, e));
+                assert_eq!((s / 6, e / 6), (start / 6, end / 6));
+                assert_eq!((s % 6).cmp(&(e % 6)), (start % 6).cmp(&(end % 6)));
+            }
+        }
+    }
+
+    #[test]
+    fn tables_agree_with_plain_recursion() {
+        let mut rng = Rng::new(3, 0);
+        let taste = Taste {
+            leaves: 4,
+            channels: 2,
+            limit: 3,
+            stars: true,
+        };
+        let head = Head {
+            duration: 30,
+            channels: 2,
+        };
+        for _ in 0..150 {
+            let bytes = random::recording(&mut rng, head, 5);
+            let recording = Recording::read(&bytes).unwrap();
+            let drill = random::drill(&mut rng, taste);
+            let table = on_grid(&drill, &recording, 3);
+            let levels = recording.levels();
+            for (start, end) in table.stretches() {
+                let fits = fits_directly(&drill, &levels, 3, start, end);
+                assert_eq!(table.has(start, end), fits, "{drill} {start} {end}");
+            }
+        }
+    }
+
+    /// What is found by moving cuts is found without, on a grid that is fine enough.
+    #[test]
+    fn moving_times_agrees_with_finer_grids() {
+        let mut rng = Rng::new(4, 0);
+        let taste = Taste {
+            leaves: 6,
+            channels: 2,
+            limit: 5,
+            stars: false,
+        };
+        let head = Head {
+            duration: 50,
+            channels: 2,
+        };
+        for _ in 0..300 {
+            let bytes = random::recording(&mut rng, head, 6);
+            let recording = Recording::read(&bytes).unwrap();
+            let drill = random::drill(&mut rng, taste);
+            let parts = parts_without_moving(&drill).expect("no stars");
+            let fine = on_grid(&drill, &recording, parts).coarsened(3);
+            let moved = exact(&drill, &recording).coarsened(3);
+            assert_eq!(moved, fine, "{drill}");
+        }
+    }
+
+    /// With a star there is no such grid, but a fine one comes close enough for short drives.
+    #[test]
+    fn moving_times_agrees_with_a_fine_grid_for_stars() {
+        let bytes = recording_r();
+        let recording = Recording::read(&bytes).unwrap();
+        for text in [
+            "(a{2,2})*",
+            "(a.a{1,1})*",
+            "(a|!a)*",
+            "(a{0,1})*",
+            "((a.!a){1,2}|a{1,1})*",
+        ] {
+            let fine = on_grid(&drill(text), &recording, 60).coarsened(6);
+            assert_eq!(exact(&drill(text), &recording), fine, "{text}");
+        }
+    }
+}

@@ -1,0 +1,524 @@
+//! The executed cases: what a proved program is given, and what it must print.
+//!
+//! The expected output is worked out here, by the plain matcher, and every list of zones goes
+//! through brute force first. Nothing in it comes from the proved library.
+//!
+//! A case of the input is five numbers of four bytes, low byte first (the lengths of recording and
+//! drill, the words of the answer and of the work buffer, the zones that `front` is told), then the
+//! recording and the drill. Before the call, word i of either buffer is i.
+
+use crate::brute;
+use crate::drill::Drill;
+use crate::examples::{pulses, recording, recording_r};
+use crate::finder::{find, front, Returned, WORK_WORDS};
+use crate::recording::{Recording, MAX_LENGTH, RECORD};
+use crate::sheet;
+use crate::zone::{Zone, WORDS};
+
+pub struct Case {
+    recording: Vec<u8>,
+    drill: Vec<u8>,
+    answer_words: usize,
+    work_words: usize,
+    /// Zones that `front` is told.
+    told: u32,
+}
+
+/// Stands for the largest `usize` among the zones told.
+const LARGEST: u32 = u32::MAX;
+/// Enough for any list, and some words behind it.
+const AMPLE_ANSWER: usize = 774;
+const AMPLE_WORK: usize = WORK_WORDS + 16;
+/// The longest drive, in ticks, that goes through brute force.
+const MAX_BRUTE_TICKS: u32 = 300;
+
+impl Case {
+    /// With ample buffers, and `front` told as many zones as there are.
+    fn new(recording: Vec<u8>, drill: impl Into<Vec<u8>>) -> Case {
+        let mut case = Case {
+            recording,
+            drill: drill.into(),
+            answer_words: AMPLE_ANSWER,
+            work_words: AMPLE_WORK,
+            told: 0,
+        };
+        case.told = case.call().returned.zones as u32;
+        case
+    }
+
+    fn on_r(drill: impl Into<Vec<u8>>) -> Case {
+        Case::new(recording_r(), drill)
+    }
+
+    fn answer(self, answer_words: usize) -> Case {
+        Case {
+            answer_words,
+            ..self
+        }
+    }
+
+    fn work(self, work_words: usize) -> Case {
+        Case { work_words, ..self }
+    }
+
+    fn told(self, told: u32) -> Case {
+        Case { told, ..self }
+    }
+
+    fn call(&self) -> Called {
+        let mut answer: Vec<i32> = (0..).take(self.answer_words).collect();
+        let mut work: Vec<i32> = (0..).take(self.work_words).collect();
+        let (answer_before, work_before) = (answer.clone(), work.clone());
+        let returned = find(&self.recording, &self.drill, &mut answer, &mut work);
+        Called {
+            returned,
+            answer_before,
+            answer,
+            work_before,
+            work,
+        }
+    }
+
+    fn front_words(&self) -> usize {
+        let zones = match self.told {
+            LARGEST => usize::MAX,
+            told => told as usize,
+        };
+        front(self.answer_words, zones)
+    }
+}
+
+/// A call with both buffers before and after it.
+struct Called {
+    returned: Returned,
+    answer_before: Vec<i32>,
+    answer: Vec<i32>,
+    work_before: Vec<i32>,
+    work: Vec<i32>,
+}
+
+impl Called {
+    fn zones(&self) -> Vec<Zone> {
+        let words = self.answer.as_chunks::<WORDS>().0;
+        let listed = words.iter().take(self.returned.zones as usize);
+        listed.map(|&words| Zone::from_words(words)).collect()
+    }
+
+    fn answer_line(&self) -> Result<String, String> {
+        let front = self.returned.zones as usize * WORDS;
+        if self.answer == self.answer_before {
+            Ok("answer kept".into())
+        } else if self.answer[front..] == self.answer_before[front..] {
+            Ok(format!("answer front {front} kept behind"))
+        } else {
+            Err("words behind the front were written".into())
+        }
+    }
+
+    fn work_line(&self) -> Result<String, String> {
+        if self.work == self.work_before {
+            return Ok("work kept".into());
+        }
+        let (cleared, behind) = self.work.split_at(WORK_WORDS);
+        if cleared.iter().all(|&word| word == 0) && behind == &self.work_before[WORK_WORDS..] {
+            Ok("work zero kept behind".into())
+        } else {
+            Err("the work buffer is neither kept nor cleared".into())
+        }
+    }
+}
+
+/// The input file.
+pub fn input(cases: &[Case]) -> Vec<u8> {
+    let mut bytes = Vec::new();
+    for case in cases {
+        let numbers = [
+            case.recording.len() as u32,
+            case.drill.len() as u32,
+            case.answer_words as u32,
+            case.work_words as u32,
+            case.told,
+        ];
+        bytes.extend(numbers.iter().flat_map(|number| number.to_le_bytes()));
+        bytes.extend(&case.recording);
+        bytes.extend(&case.drill);
+    }
+    bytes
+}
+
+/// What the program must print, or which case the matchers do not agree on.
+pub fn output(cases: &[Case]) -> Result<String, String> {
+    let mut text = String::new();
+    for (index, case) in cases.iter().enumerate() {
+        let number = index + 1;
+        let lines = lines(case).map_err(|fault| format!("case {number}: {fault}"))?;
+        text.push_str(&format!("case {number}\n{lines}"));
+    }
+    Ok(text)
+}
+
+fn lines(case: &Case) -> Result<String, String> {
+    let called = case.call();
+    let zones = called.zones();
+    if called.returned.is_accepted() {
+        try_fractions(case, &zones)?;
+    }
+    let Returned {
+        number,
+        zones: count,
+        rounds,
+    } = called.returned;
+    Ok(format!(
+        "returned {number} {count} {rounds}\n{}\n{}\nfront {}\n{}",
+        called.answer_line()?,
+        called.work_line()?,
+        case.front_words(),
+        sheet::text(called.returned, &called.answer),
+    ))
+}
+
+fn try_fractions(case: &Case, zones: &[Zone]) -> Result<(), String> {
+    let recording = Recording::read(&case.recording).map_err(|_| "accepted a wrong recording")?;
+    let drill = Drill::read(&case.drill, recording.channels());
+    let drill = drill.map_err(|_| "accepted a wrong drill")?;
+    if recording.ticks() <= MAX_BRUTE_TICKS {
+        brute::compare(&drill, &recording, zones)?;
+    }
+    Ok(())
+}
+
+/// Every case, in the order of the output.
+pub fn all() -> Vec<Case> {
+    let groups = [
+        marked_set(),
+        stars(),
+        ticks(),
+        recordings_refused(),
+        drills_refused(),
+        depths(),
+        crowded_lists(),
+        buffers(),
+        fronts(),
+        several_causes(),
+        limits(),
+    ];
+    groups.into_iter().flatten().collect()
+}
+
+/// Document 01's marked set on R.
+fn marked_set() -> Vec<Case> {
+    let drills = [
+        "a", "a.a", "a|a", "a.!a", "a{5,5}", "a{6,}", "a{0,0}", "a&!a", "_",
+    ];
+    drills.into_iter().map(Case::on_r).collect()
+}
+
+fn stars() -> Vec<Case> {
+    let two = recording(
+        120,
+        2,
+        &[(10, 1), (34, 3), (35, 2), (61, 1), (80, 0), (90, 3)],
+    );
+    let overlapping = recording(
+        79,
+        2,
+        &[
+            (25, 3),
+            (33, 2),
+            (38, 1),
+            (48, 3),
+            (57, 0),
+            (59, 2),
+            (74, 1),
+            (77, 2),
+        ],
+    );
+    let overlapping_long = recording(
+        99,
+        2,
+        &[
+            (24, 1),
+            (32, 3),
+            (44, 2),
+            (59, 1),
+            (66, 3),
+            (71, 1),
+            (80, 3),
+        ],
+    );
+    vec![
+        Case::on_r("(a{2,2})*"),
+        Case::on_r("(a|!a)*"),
+        Case::new(two.clone(), "(a|!a)*"),
+        // A round that removes one zone and adds one.
+        Case::on_r("(a{0,1})*"),
+        // The star of an empty list, of the diagonal, of a star.
+        Case::on_r("(a{6,})*"),
+        Case::on_r("_*"),
+        Case::on_r("(a{0,1})**"),
+        Case::on_r("(a{1,2}.a{1,1})*|(!a{1,1})*"),
+        Case::new(two.clone(), "((a.b){0,3})*"),
+        Case::new(two.clone(), "((a|b){1,2}.!a)*.b"),
+        Case::new(two.clone(), "(a.b)&(a.b{1,})|!a.a"),
+        Case::new(two, "!a.a{1,1}.(b|_)"),
+        // Here the order of the list shows which zones are composed first, and on which side.
+        Case::new(overlapping, "((a|b){1,1})*"),
+        Case::new(overlapping_long, "((b.(a|b)|a){1,1})*"),
+    ]
+}
+
+/// Rounding, several changes on a tick, changes on tick d, drives without changes.
+fn ticks() -> Vec<Case> {
+    vec![
+        Case::new(recording(100, 1, &[(24, 1)]), "a"),
+        Case::new(recording(100, 1, &[(25, 1)]), "a"),
+        Case::new(recording(104, 1, &[(20, 1), (95, 0)]), "a"),
+        Case::new(recording(105, 1, &[(20, 1), (95, 0)]), "a"),
+        Case::new(recording(104, 1, &[(96, 1)]), "a"),
+        Case::new(recording(100, 1, &[(48, 1), (52, 0)]), "!a"),
+        Case::new(recording(100, 1, &[(15, 1), (17, 0), (24, 1)]), "a"),
+        Case::new(recording(100, 1, &[(0, 1), (50, 0)]), "a"),
+        Case::new(recording(10, 1, &[]), "a"),
+        Case::new(recording(10, 1, &[]), "!a"),
+        Case::new(recording(100, 16, &[(30, 0x8000)]), "p"),
+        Case::new(recording(100, 2, &[(10, 1), (30, 3), (60, 2)]), "a"),
+    ]
+}
+
+/// Refusals 1 to 3.
+fn recordings_refused() -> Vec<Case> {
+    let head = || recording(100, 1, &[]);
+    let with = |at: usize, byte: u8| {
+        let mut bytes = recording_r();
+        bytes[at] = byte;
+        bytes
+    };
+    let recordings = vec![
+        vec![],
+        recording_r()[..7].to_vec(),
+        recording_r()[..23].to_vec(),
+        largest(1),
+        largest(RECORD),
+        // The head, each field in turn.
+        vec![0; RECORD],
+        with(0, 0x43),
+        with(1, 0x53),
+        recording(9, 1, &[]),
+        recording(10_000_001, 1, &[]),
+        recording(100, 0, &[]),
+        recording(100, 17, &[]),
+        with(7, 1),
+        // A change, each field in turn.
+        with(8, 0x44),
+        with(9, 0x49),
+        recording(100, 1, &[(100, 1)]),
+        recording(100, 1, &[(20, 1), (20, 0)]),
+        recording(100, 1, &[(20, 1), (19, 0)]),
+        recording(100, 1, &[(20, 2)]),
+        recording(100, 15, &[(20, 0x8000)]),
+        [head(), head()].concat(),
+        // The last change is checked too.
+        [recording_r(), vec![0; RECORD]].concat(),
+    ];
+    recordings
+        .into_iter()
+        .map(|bytes| Case::new(bytes, "a"))
+        .collect()
+}
+
+/// The largest recording, with this many bytes too many.
+fn largest(more: usize) -> Vec<u8> {
+    let changes: Vec<(u32, u16)> = (0..(MAX_LENGTH / RECORD - 1) as u32)
+        .map(|k| (10 * k, if k < 2048 { 2 } else { 1 }))
+        .collect();
+    let mut bytes = recording(50_000, 2, &changes);
+    bytes.resize(MAX_LENGTH + more, 0);
+    bytes
+}
+
+/// Refusals 4 to 7, and texts that just pass.
+fn drills_refused() -> Vec<Case> {
+    let wrapped = |inner: &str| format!("{}{inner}{}", "(".repeat(127), ")".repeat(127));
+    let long_number = format!("a{{0,{}}}", "9".repeat(250));
+    let long_wrapped = [wrapped("a"), wrapped("!a"), long_number];
+    let of_another_form = "( ) a) () ab a| .a A q !_ !!a a{2} a{,2} a{02,3} a{2,03} a{2,3 *";
+    let out_of_range = "b !p (a.b) a{3,2} a{1000001,} a{0,1000001} a{4294967296,} \
+                        a{0,18446744073709551616}";
+    let just_passing = "a{1000000,1000000} a{0,} (a)";
+    let mut cases = vec![Case::on_r(""), Case::on_r("a b"), Case::on_r("a\n")];
+    for drills in [of_another_form, out_of_range, just_passing] {
+        cases.extend(drills.split_whitespace().map(Case::on_r));
+    }
+    cases.extend(long_wrapped.into_iter().map(Case::on_r));
+    cases.push(Case::on_r(vec![0xC3, 0xA9]));
+    cases.push(Case::on_r(vec![b'a'; 400]));
+    cases
+}
+
+/// Refusal 8.
+fn depths() -> Vec<Case> {
+    let right_nested =
+        |depth: usize| format!("{}a{}", "!a|(".repeat(depth - 1), ")".repeat(depth - 1));
+    let left_nested = |depth: usize| format!("a{}", ".a".repeat(depth - 1));
+    vec![
+        Case::on_r(format!("a{}", "*".repeat(15))),
+        Case::on_r(format!("a{}", "*".repeat(16))),
+        Case::on_r(right_nested(16)),
+        Case::on_r(right_nested(17)),
+        Case::on_r(left_nested(16)),
+        Case::on_r(left_nested(17)),
+        // 255 bytes of joins.
+        Case::on_r(left_nested(128)),
+        // Brackets add nothing.
+        Case::on_r(format!(
+            "{}a{}{}",
+            "(".repeat(20),
+            ")".repeat(20),
+            "*".repeat(15)
+        )),
+        Case::on_r(format!("{}a{}", "(".repeat(16), "*)".repeat(16))),
+    ]
+}
+
+/// Refusal 10, and lists that are just not too long.
+fn crowded_lists() -> Vec<Case> {
+    vec![
+        Case::new(pulses(128), "a"),
+        Case::new(pulses(129), "a"),
+        Case::new(pulses(128), "a.!a"),
+        // The diagonal comes last, and may be the zone too many.
+        Case::new(pulses(127), "a*"),
+        Case::new(pulses(128), "a*"),
+        // A put that removes a zone makes its own room.
+        Case::new(pulses(128), "a{1,1}|a"),
+        Case::new(pulses(128), "a|a{1,1}"),
+        Case::new(pulses(128), "a|_"),
+        Case::new(pulses(64), "a|!a"),
+        Case::new(pulses(63), "a|!a|_"),
+        // Too long on the way, whatever would have come of it.
+        Case::new(pulses(129), "a&_"),
+        Case::new(recording(200, 1, &[(0, 1)]), "(a{1,1})*"),
+        Case::new(recording(1300, 1, &[(0, 1)]), "(a{1,1})*"),
+    ]
+}
+
+/// Refusals 9 and 11, and buffers of just the right length.
+fn buffers() -> Vec<Case> {
+    let three = || Case::on_r("(a{2,2})*");
+    vec![
+        Case::on_r("a").work(WORK_WORDS - 1),
+        Case::on_r("a").work(WORK_WORDS),
+        Case::on_r("a").work(0),
+        // Both short.
+        Case::on_r("a").work(WORK_WORDS - 1).answer(5),
+        Case::on_r("a").work(0).answer(0),
+        Case::new(pulses(129), "a").work(WORK_WORDS - 1).answer(0),
+        Case::on_r("a").answer(5),
+        Case::on_r("a").answer(6),
+        Case::on_r("a").answer(7),
+        Case::on_r("a").answer(0),
+        three().answer(17),
+        three().answer(18),
+        three().answer(19),
+        three().answer(12).work(WORK_WORDS),
+        // Nothing to list needs no room.
+        Case::on_r("a&!a").answer(0),
+        Case::on_r("a&!a").answer(0).work(WORK_WORDS),
+        Case::new(pulses(128), "a").answer(767),
+        Case::new(pulses(128), "a").answer(768),
+        // 10 comes before 11.
+        Case::new(pulses(129), "a").answer(0),
+    ]
+}
+
+/// `front`, told what is so and what is not.
+fn fronts() -> Vec<Case> {
+    let three = || Case::on_r("(a{2,2})*").answer(23);
+    let mut cases: Vec<Case> = [0, 1, 2, 3, 4, 5, 715_827_883, LARGEST - 1, LARGEST]
+        .into_iter()
+        .map(|told| three().told(told))
+        .collect();
+    cases.extend([
+        three().answer(24).told(4),
+        Case::on_r("a)").told(129),
+        Case::on_r("a)").told(130),
+        Case::on_r("a)").answer(0).told(0),
+        Case::on_r("a)").answer(0).told(1),
+        Case::on_r("a)").answer(0).told(LARGEST),
+        Case::on_r("a)").answer(5).told(1),
+    ]);
+    cases
+}
+
+/// Several causes at once: the first one is given.
+fn several_causes() -> Vec<Case> {
+    let r = recording_r;
+    let stars = "*".repeat(16);
+    let odd_and_wrong = vec![0; 9];
+    let wrong_head_and_change = [recording(9, 17, &[]), vec![0; RECORD]].concat();
+    let wrong_change = || recording(100, 1, &[(200, 7)]);
+    let short = |recording, drill: &str| Case::new(recording, drill).answer(0).work(0);
+    vec![
+        short(odd_and_wrong, ""),
+        short(wrong_head_and_change, "("),
+        short(wrong_change(), ""),
+        short(wrong_change(), "b{2,1})"),
+        short(r(), &"(".repeat(256)),
+        short(r(), &format!("b{{2,1}}{stars})")),
+        short(r(), &format!("a{{2,1}}{stars}.b")),
+        short(r(), &format!("a{{2,1}}{stars}")),
+        short(r(), &format!("a{stars}")),
+        short(r(), "a"),
+        Case::new(pulses(129), "a").answer(5),
+    ]
+}
+
+/// The largest of everything.
+fn limits() -> Vec<Case> {
+    let longest = || recording(10_000_000, 1, &[(9_999_999, 1)]);
+    vec![
+        Case::new(largest(0), "b.(a{1,}|_)"),
+        Case::new(longest(), "!a{1000000,1000000}"),
+        Case::new(longest(), "!a{999999,}.!a*"),
+        Case::new(longest(), "(!a|a)*{0,1000000}"),
+    ]
+}
+
+#[cfg(test)]
+mod tests {
+    use super::*;
+
+    #[test]
+    fn the_matchers_agree_on_every_case() {
+        let text = output(&all()).expect("agreement");
+        for number in 0..=11 {
+            assert!(text.contains(&format!("\nreturned {number} ")), "{number}");
+        }
+    }
+
+    #[test]
+    fn the_input_stays_within_its_bounds() {
+        let cases = all();
+        assert!(input(&cases).len() < 200_000);
+        for case in cases {
+            assert!(case.recording.len() <= MAX_LENGTH + RECORD);
+            assert!(case.drill.len() <= 400);
+            assert!(case.answer_words <= 800 && case.work_words <= 16_400);
+        }
+    }
+
+    #[test]
+    fn the_printed_example_as_lines() {
+        let text = output(&[Case::on_r("(a{2,2})*")]).expect("agreement");
+        let expected = "case 1\n\
+            returned 0 3 2\n\
+            answer front 18 kept behind\n\
+            work zero kept behind\n\
+            front 18\n\
+            zones 3 rounds 2\n\
+            start [2,5] end [4,7] length [2,2]\n\
+            start [2,3] end [6,7] length [4,4]\n\
+            start [0,10] end [0,10] length [0,0]\n";
+        assert_eq!(text, expected);
+    }
+}

@@ -1,0 +1,377 @@
+//! Drills: the text, the tree, and refusals 4 to 8.
+
+use std::fmt;
+
+use crate::refusal::Refusal;
+
+/// The longest text.
+pub const MAX_LENGTH: usize = 255;
+/// The deepest tree.
+pub const MAX_DEPTH: usize = 16;
+/// The highest limit of a band.
+pub const MAX_LIMIT: u32 = 1_000_000;
+
+/// Limits on the length of a stretch, both reached.
+#[derive(Clone, Copy, Debug, PartialEq, Eq)]
+pub struct Band {
+    pub lo: u32,
+    /// Missing where there is no upper limit.
+    pub hi: Option<u32>,
+}
+
+#[derive(Clone, Debug, PartialEq, Eq)]
+pub enum Drill {
+    /// `_`
+    Empty,
+    /// A letter, or `!` and a letter.
+    Letter { channel: u8, high: bool },
+    /// `.`
+    Then(Box<Drill>, Box<Drill>),
+    /// `&`
+    Both(Box<Drill>, Box<Drill>),
+    /// `|`
+    Either(Box<Drill>, Box<Drill>),
+    /// `{lo,hi}`
+    Within(Box<Drill>, Band),
+    /// `*`
+    Star(Box<Drill>),
+}
+
+impl Drill {
+    /// Each check runs over the whole drill before the next one starts.
+    pub fn read(text: &[u8], channels: u8) -> Result<Drill, Refusal> {
+        if text.is_empty() || text.len() > MAX_LENGTH {
+            return Err(Refusal::DrillLength);
+        }
+        let drill = parse(text).ok_or(Refusal::DrillForm)?;
+        let known =
+            |part: &Drill| !matches!(part, Drill::Letter { channel, .. } if *channel >= channels);
+        if !drill.all(&known) {
+            return Err(Refusal::Letter);
+        }
+        let in_order = |part: &Drill| !matches!(part, Drill::Within(_, band) if !band.is_valid());
+        if !drill.all(&in_order) {
+            return Err(Refusal::Band);
+        }
+        if drill.depth() > MAX_DEPTH {
+            return Err(Refusal::Depth);
+        }
+        Ok(drill)
+    }
+
+    pub fn operands(&self) -> Vec<&Drill> {
+        match self {
+            Drill::Empty | Drill::Letter { .. } => vec![],
+            Drill::Then(left, right) | Drill::Both(left, right) | Drill::Either(left, right) => {
+                vec![left, right]
+            }
+            Drill::Within(inner, _) | Drill::Star(inner) => vec![inner],
+        }
+    }
+
+    /// Whether a condition holds of the drill and of every part of it.
+    pub fn all(&self, holds: &dyn Fn(&Drill) -> bool) -> bool {
+        holds(self) && self.operands().iter().all(|part| part.all(holds))
+    }
+
+    /// How many parts of the drill, itself included, meet a condition.
+    pub fn count(&self, meets: &dyn Fn(&Drill) -> bool) -> usize {
+        let inside: usize = self.operands().iter().map(|part| part.count(meets)).sum();
+        inside + usize::from(meets(self))
+    }
+
+    /// Brackets leave no trace in the tree, so they add nothing.
+    pub fn depth(&self) -> usize {
+        let deepest = self.operands().iter().map(|part| part.depth()).max();
+        1 + deepest.unwrap_or(0)
+    }
+
+    /// The text of the drill, with as many pairs of needless brackets around each part as
+    /// `extra` gives.
+    pub fn text(&self, extra: &mut dyn FnMut() -> usize) -> String {
+        let mut text = String::new();
+        self.write(Level::Alternative, extra, &mut text);
+        text
+    }
+
+    fn write(&self, place: Level, extra: &mut dyn FnMut() -> usize, text: &mut String) {
+        let pairs = extra() + usize::from(self.level() < place);
+        text.push_str(&"(".repeat(pairs));
+        match self {
+            Drill::Empty => text.push('_'),
+            Drill::Letter { channel, high } => {
+                text.push_str(if *high { "" } else { "!" });
+                text.push(char::from(b'a' + channel));
+            }
+            // Joins group to the left, so a right operand of the same join needs brackets.
+            Drill::Then(left, right) => {
+                left.write(Level::Sequence, extra, text);
+                text.push('.');
+                right.write(Level::Repeat, extra, text);
+            }
+            Drill::Both(left, right) => {
+                left.write(Level::Conjunction, extra, text);
+                text.push('&');
+                right.write(Level::Sequence, extra, text);
+            }
+            Drill::Either(left, right) => {
+                left.write(Level::Alternative, extra, text);
+                text.push('|');
+                right.write(Level::Conjunction, extra, text);
+            }
+            Drill::Within(inner, band) => {
+                inner.write(Level::Repeat, extra, text);
+                text.push_str(&band.to_string());
+            }
+            Drill::Star(inner) => {
+                inner.write(Level::Repeat, extra, text);
+                text.push('*');
+            }
+        }
+        text.push_str(&")".repeat(pairs));
+    }
+
+    fn level(&self) -> Level {
+        match self {
+            Drill::Either(..) => Level::Alternative,
+            Drill::Both(..) => Level::Conjunction,
+            Drill::Then(..) => Level::Sequence,
+            Drill::Within(..) | Drill::Star(_) => Level::Repeat,
+            Drill::Empty | Drill::Letter { .. } => Level::Primary,
+        }
+    }
+}
+
+/// The levels of the grammar, the loosest first.
+#[derive(Clone, Copy, PartialEq, Eq, PartialOrd, Ord)]
+enum Level {
+    Alternative,
+    Conjunction,
+    Sequence,
+    Repeat,
+    Primary,
+}
+
+impl fmt::Display for Drill {
+    /// With no more brackets than needed.
+    fn fmt(&self, out: &mut fmt::Formatter) -> fmt::Result {
+        out.write_str(&self.text(&mut || 0))
+    }
+}
+
+impl Band {
+    fn is_valid(self) -> bool {
+        let hi = self.hi.unwrap_or(MAX_LIMIT);
+        self.lo <= hi && hi <= MAX_LIMIT
+    }
+}
+
+impl fmt::Display for Band {
+    fn fmt(&self, out: &mut fmt::Formatter) -> fmt::Result {
+        match self.hi {
+            Some(hi) => write!(out, "{{{},{hi}}}", self.lo),
+            None => write!(out, "{{{},}}", self.lo),
+        }
+    }
+}
+
+/// The tree of a text, or nothing where the text is not a whole alternative.
+fn parse(text: &[u8]) -> Option<Drill> {
+    let mut reader = Reader { rest: text };
+    let drill = reader.alternative()?;
+    reader.rest.is_empty().then_some(drill)
+}
+
+/// The unread text. Each method reads what it is named after from the front of it.
+struct Reader<'a> {
+    rest: &'a [u8],
+}
+
+impl Reader<'_> {
+    fn alternative(&mut self) -> Option<Drill> {
+        self.joined(b'|', Reader::conjunction, Drill::Either)
+    }
+
+    fn conjunction(&mut self) -> Option<Drill> {
+        self.joined(b'&', Reader::sequence, Drill::Both)
+    }
+
+    fn sequence(&mut self) -> Option<Drill> {
+        self.joined(b'.', Reader::repeat, Drill::Then)
+    }
+
+    fn joined(
+        &mut self,
+        join: u8,
+        operand: fn(&mut Self) -> Option<Drill>,
+        node: fn(Box<Drill>, Box<Drill>) -> Drill,
+    ) -> Option<Drill> {
+        let mut drill = operand(self)?;
+        while self.take(join) {
+            drill = node(Box::new(drill), Box::new(operand(self)?));
+        }
+        Some(drill)
+    }
+
+    fn repeat(&mut self) -> Option<Drill> {
+        let mut drill = self.primary()?;
+        loop {
+            if self.take(b'*') {
+                drill = Drill::Star(Box::new(drill));
+            } else if self.take(b'{') {
+                drill = Drill::Within(Box::new(drill), self.band()?);
+            } else {
+                return Some(drill);
+            }
+        }
+    }
+
+    fn primary(&mut self) -> Option<Drill> {
+        match self.next()? {
+            b'_' => Some(Drill::Empty),
+            b'(' => {
+                let drill = self.alternative()?;
+                self.take(b')').then_some(drill)
+            }
+            b'!' => {
+                let name = self.next()?;
+                letter(name, false)
+            }
+            name => letter(name, true),
+        }
+    }
+
+    /// The band after its opening brace.
+    fn band(&mut self) -> Option<Band> {
+        let lo = self.number()?;
+        if !self.take(b',') {
+            return None;
+        }
+        if self.take(b'}') {
+            return Some(Band { lo, hi: None });
+        }
+        let hi = Some(self.number()?);
+        self.take(b'}').then_some(Band { lo, hi })
+    }
+
+    /// A number of any length. One that does not fit becomes the largest that does, which is
+    /// above what a band allows, as it is itself.
+    fn number(&mut self) -> Option<u32> {
+        let digits = self.rest.iter().take_while(|byte| byte.is_ascii_digit());
+        let (number, rest) = self.rest.split_at(digits.count());
+        if number.is_empty() || (number[0] == b'0' && number.len() > 1) {
+            return None;
+        }
+        self.rest = rest;
+        let digit = |byte: &u8| u32::from(byte - b'0');
+        Some(number.iter().fold(0u32, |value, byte| {
+            value.saturating_mul(10).saturating_add(digit(byte))
+        }))
+    }
+
+    fn next(&mut self) -> Option<u8> {
+        let (&first, rest) = self.rest.split_first()?;
+        self.rest = rest;
+        Some(first)
+    }
+
+    fn take(&mut self, wanted: u8) -> bool {
+        let found = self.rest.first() == Some(&wanted);
+        if found {
+            self.rest = &self.rest[1..];
+        }
+        found
+    }
+}
+
+fn letter(name: u8, high: bool) -> Option<Drill> {
+    let channel = (b'a'..=b'p').contains(&name).then(|| name - b'a')?;
+    Some(Drill::Letter { channel, high })
+}
+
+#[cfg(test)]
+mod tests {
+    use super::*;
+
+    fn refused(text: &str, channels: u8) -> Option<u32> {
+        Drill::read(text.as_bytes(), channels)
+            .err()
+            .map(Refusal::number)
+    }
+
+    fn read(text: &str) -> Drill {
+        Drill::read(text.as_bytes(), 16).expect(text)
+    }
+
+    #[test]
+    fn joins_bind_in_order_and_group_to_the_left() {
+        assert_eq!(read("a|b&c.d"), read("a|(b&(c.d))"));
+        assert_eq!(read("a.b.c"), read("(a.b).c"));
+        assert_ne!(read("a.b.c"), read("a.(b.c)"));
+        assert_eq!(read("a|b|c"), read("(a|b)|c"));
+        assert_eq!(read("a&b&c"), read("(a&b)&c"));
+        assert_eq!(read("!a.b*"), read("(!a).(b*)"));
+        assert_eq!(read("a*{1,2}*"), read("((a*){1,2})*"));
+    }
+
+    #[test]
+    fn a_drill_prints_as_it_reads() {
+        for text in [
+            "_",
+            "!p",
+            "a.(b.c)",
+            "(a|b)&c",
+            "(a.b){0,3}*",
+            "((a&b).!a){4,}",
+        ] {
+            assert_eq!(read(text).to_string(), text);
+            let bracketed = read(text).text(&mut || 1);
+            assert_eq!(read(&bracketed), read(text));
+        }
+    }
+
+    #[test]
+    fn texts_of_another_form_are_refused_by_5() {
+        for text in [
+            "()", "(", "a)", "(a", "ab", "a|", "|a", "a..b", "!", "!!a", "!(a)", "!_", "A", "q",
+            "z", " a", "a ", "a\n", "*", "{1,2}", "a{2}", "a{,2}", "a{,}", "a{}", "a{1,2",
+            "a{01,2}", "a{1,02}", "a{00,1}", "a{-1,2}", "a{1 ,2}", "a{1,2}}", "a{1,2,3}", "é",
+        ] {
+            assert_eq!(refused(text, 16), Some(5), "{text}");
+        }
+        for text in ["a{0,0}", "a{10,}", "a{0,1000000}", "(((_)))"] {
+            assert_eq!(refused(text, 16), None, "{text}");
+        }
+        assert_eq!(Drill::read(&[0xFF], 16), Err(Refusal::DrillForm));
+    }
+
+    #[test]
+    fn each_check_covers_the_whole_text_before_the_next() {
+        assert_eq!(refused("", 1), Some(4));
+        assert_eq!(refused(&"(".repeat(256), 1), Some(4));
+        assert_eq!(refused("b{2,1}.a)", 1), Some(5));
+        assert_eq!(refused("a{2,1}.b", 1), Some(6));
+        assert_eq!(refused("a{2,1}*****************", 1), Some(7));
+        assert_eq!(refused("a*****************", 1), Some(8));
+    }
+
+    #[test]
+    fn limits_of_a_band_may_have_any_number_of_digits() {
+        assert_eq!(refused("a{1000001,}", 1), Some(7));
+        assert_eq!(refused("a{0,1000001}", 1), Some(7));
+        assert_eq!(refused("a{3,2}", 1), Some(7));
+        // 2^32 and 2^64 must not come back as 0.
+        assert_eq!(refused("a{0,4294967296}", 1), Some(7));
+        assert_eq!(refused("a{18446744073709551616,}", 1), Some(7));
+        assert_eq!(refused(&format!("a{{{},}}", "9".repeat(250)), 1), Some(7));
+    }
+
+    #[test]
+    fn depth_counts_operators_and_no_brackets() {
+        assert_eq!(refused(&format!("a{}", "*".repeat(15)), 1), None);
+        assert_eq!(refused(&format!("a{}", "*".repeat(16)), 1), Some(8));
+        let wrapped = format!("{}a{}", "(".repeat(127), ")".repeat(127));
+        assert_eq!((wrapped.len(), refused(&wrapped, 1)), (255, None));
+        assert_eq!(read("!a.(b|c{1,2})").depth(), 4);
+    }
+}

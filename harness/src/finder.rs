@@ -1,0 +1,276 @@
+//! The whole call: what it returns, and what both buffers hold afterwards.
+
+use crate::drill::Drill;
+use crate::recording::Recording;
+use crate::refusal::Refusal;
+use crate::zone::WORDS;
+use crate::zones::{List, Matcher, Star, Stop};
+
+/// Words that the work buffer must have, and that are zero once a list was begun.
+pub const WORK_WORDS: usize = 16_384;
+
+/// What a call returns.
+#[derive(Clone, Copy, Debug, PartialEq, Eq)]
+pub struct Returned {
+    /// 0 where the drill is accepted, else the number of the refusal.
+    pub number: u32,
+    pub zones: u64,
+    pub rounds: u64,
+}
+
+impl Returned {
+    fn refused(refusal: Refusal) -> Returned {
+        Returned {
+            number: refusal.number(),
+            zones: 0,
+            rounds: 0,
+        }
+    }
+
+    pub fn is_accepted(self) -> bool {
+        self.number == 0
+    }
+}
+
+/// What a call came to, with what a caller does not see.
+#[derive(Clone, Debug)]
+pub struct Found {
+    pub returned: Returned,
+    /// The stars of an accepted drill.
+    pub stars: Vec<Star>,
+}
+
+/// Finds all stretches of the recording that fit the drill.
+pub fn find(recording: &[u8], drill: &[u8], answer: &mut [i32], work: &mut [i32]) -> Returned {
+    let found = find_within(recording, drill, answer, work, u64::MAX);
+    found.expect("nothing is over this budget").returned
+}
+
+/// The same call, given up with nothing written where the rounds would compose more pairs of
+/// zones than `budget`.
+pub fn find_within(
+    recording: &[u8],
+    drill: &[u8],
+    answer: &mut [i32],
+    work: &mut [i32],
+    budget: u64,
+) -> Option<Found> {
+    match evaluate(recording, drill, answer.len(), work.len(), budget) {
+        Ok((list, stars)) => {
+            clear(work);
+            write(&list, answer);
+            let returned = Returned {
+                number: 0,
+                zones: list.zones().len() as u64,
+                rounds: stars.iter().map(|star| star.rounds).sum(),
+            };
+            Some(Found { returned, stars })
+        }
+        Err(Stop::Refused(refusal)) => {
+            if refusal >= Refusal::ListFull {
+                clear(work);
+            }
+            Some(Found {
+                returned: Returned::refused(refusal),
+                stars: Vec::new(),
+            })
+        }
+        Err(Stop::OverBudget) => None,
+    }
+}
+
+/// The words of the filled front, for a caller that tells the number of zones: none where it
+/// tells more than the buffer can hold.
+pub fn front(answer_words: usize, zones: usize) -> usize {
+    match zones.checked_mul(WORDS) {
+        Some(words) if words <= answer_words => words,
+        _ => 0,
+    }
+}
+
+/// All that recording, drill and the lengths of the buffers decide, checked in the order of the
+/// refusals' numbers.
+fn evaluate(
+    recording: &[u8],
+    drill: &[u8],
+    answer_words: usize,
+    work_words: usize,
+    budget: u64,
+) -> Result<(List, Vec<Star>), Stop> {
+    let recording = Recording::read(recording).map_err(|fault| fault.refusal)?;
+    let drill = Drill::read(drill, recording.channels())?;
+    if work_words < WORK_WORDS {
+        return Err(Refusal::WorkShort.into());
+    }
+    let mut matcher = Matcher::new(&recording, budget);
+    let list = matcher.list(&drill)?;
+    if answer_words < WORDS * list.zones().len() {
+        return Err(Refusal::AnswerShort.into());
+    }
+    Ok((list, matcher.into_stars()))
+}
+
+fn clear(work: &mut [i32]) {
+    work[..WORK_WORDS].fill(0);
+}
+
+fn write(list: &List, answer: &mut [i32]) {
+    for (words, zone) in answer.chunks_exact_mut(WORDS).zip(list.zones()) {
+        words.copy_from_slice(zone.words());
+    }
+}
+
+#[cfg(test)]
+mod tests {
+    use super::*;
+    use crate::examples::{pulses, recording, recording_r};
+    use crate::sheet;
+
+    /// The returned values and the sheet's lines, with buffers that are long enough.
+    fn sheet(recording: &[u8], drill: &str) -> String {
+        let mut answer = vec![7; 768];
+        let mut work = vec![7; WORK_WORDS];
+        let returned = find(recording, drill.as_bytes(), &mut answer, &mut work);
+        sheet::text(returned, &answer)
+    }
+
+    fn number(recording: &[u8], drill: &str) -> u32 {
+        let mut answer = vec![7; 768];
+        find(
+            recording,
+            drill.as_bytes(),
+            &mut answer,
+            &mut [7; WORK_WORDS],
+        )
+        .number
+    }
+
+    #[test]
+    fn the_printed_example() {
+        let expected = "zones 3 rounds 2\n\
+            start [2,5] end [4,7] length [2,2]\n\
+            start [2,3] end [6,7] length [4,4]\n\
+            start [0,10] end [0,10] length [0,0]\n";
+        assert_eq!(sheet(&recording_r(), "(a{2,2})*"), expected);
+    }
+
+    #[test]
+    fn the_marked_set() {
+        let run = "zones 1 rounds 0\nstart [2,7) end (2,7] length (0,5]\n";
+        let table = [
+            ("a", run),
+            ("a.a", run),
+            ("a|a", run),
+            (
+                "a.!a",
+                "zones 1 rounds 0\nstart [2,7) end (7,10] length (0,8]\n",
+            ),
+            (
+                "a{5,5}",
+                "zones 1 rounds 0\nstart [2,2] end [7,7] length [5,5]\n",
+            ),
+            ("a{6,}", "zones 0 rounds 0\n"),
+            ("a{0,0}", "zones 0 rounds 0\n"),
+            ("a&!a", "zones 0 rounds 0\n"),
+            (
+                "_",
+                "zones 1 rounds 0\nstart [0,10] end [0,10] length [0,0]\n",
+            ),
+        ];
+        for (drill, expected) in table {
+            assert_eq!(sheet(&recording_r(), drill), expected, "{drill}");
+        }
+    }
+
+    #[test]
+    fn rounding_reaches_the_zones() {
+        let at = |ms| recording(100, 1, &[(ms, 1)]);
+        assert!(sheet(&at(24), "a").contains("start [2,10) end (2,10] length (0,8]"));
+        assert!(sheet(&at(25), "a").contains("start [3,10) end (3,10] length (0,7]"));
+    }
+
+    #[test]
+    fn whole_ticks_are_not_the_only_cuts() {
+        assert_eq!(sheet(&recording_r(), "a.a"), sheet(&recording_r(), "a"));
+    }
+
+    #[test]
+    fn a_sequence_keeps_strictness() {
+        // No stretch of length 0, so nothing is left of length 0 at most.
+        assert_eq!(sheet(&recording_r(), "(a.a){0,0}"), "zones 0 rounds 0\n");
+    }
+
+    /// Each of the first four rounds removes the one zone and adds a longer one.
+    #[test]
+    fn a_number_of_zones_that_stands_still_ends_no_star() {
+        let expected = "zones 2 rounds 5\n\
+            start [2,7) end (2,7] length (0,5]\n\
+            start [0,10] end [0,10] length [0,0]\n";
+        assert_eq!(sheet(&recording_r(), "(a{0,1})*"), expected);
+    }
+
+    #[test]
+    fn operands_are_composed_in_their_order() {
+        let forth = "start [2,7) end (7,10] length (0,8]";
+        let back = "start [0,2) end (2,7] length (0,7]";
+        assert!(sheet(&recording_r(), "a.!a").contains(forth));
+        assert!(sheet(&recording_r(), "!a.a").contains(back));
+        // Their meets are no mirror images either.
+        assert!(sheet(&recording_r(), "a.a{1,1}").contains("start [2,6) end (3,7] length (1,5]"));
+        assert!(sheet(&recording_r(), "!a.a{1,1}").contains("start [0,2) end [3,3] length (1,3]"));
+    }
+
+    #[test]
+    fn the_star_of_nothing_is_the_diagonal_after_one_round() {
+        let expected = "zones 1 rounds 1\nstart [0,10] end [0,10] length [0,0]\n";
+        assert_eq!(sheet(&recording_r(), "(a{6,})*"), expected);
+    }
+
+    #[test]
+    fn rounds_are_summed_over_the_stars_as_written() {
+        // The inner star has 5 rounds; its list holds the diagonal, so the outer one has 1.
+        assert!(sheet(&recording_r(), "(a{0,1})**").starts_with("zones 2 rounds 6\n"));
+        assert!(sheet(&recording_r(), "(a{0,1})*|(a{0,1})*").starts_with("zones 2 rounds 10\n"));
+    }
+
+    #[test]
+    fn a_list_holds_128_zones() {
+        assert!(sheet(&pulses(128), "a").starts_with("zones 128 rounds 0\n"));
+        assert_eq!(number(&pulses(129), "a"), 10);
+        // The diagonal is the zone too many.
+        assert!(sheet(&pulses(127), "a*").starts_with("zones 128 rounds 1\n"));
+        assert_eq!(number(&pulses(128), "a*"), 10);
+        // A put that removes a zone leaves the list as long as it was.
+        assert!(sheet(&pulses(128), "a{1,1}|a").starts_with("zones 128 rounds 0\n"));
+    }
+
+    #[test]
+    fn buffers_are_left_as_the_table_says() {
+        let call = |drill: &str, answer_words: usize, work_words: usize| {
+            let mut answer = vec![7; answer_words];
+            let mut work = vec![9; work_words];
+            let returned = find(&recording_r(), drill.as_bytes(), &mut answer, &mut work);
+            (returned.number, answer, work)
+        };
+        let cleared = [vec![0; WORK_WORDS], vec![9; 2]].concat();
+        assert_eq!(call("a)", 8, 3), (5, vec![7; 8], vec![9; 3]));
+        let short = WORK_WORDS - 1;
+        assert_eq!(call("a", 5, short), (9, vec![7; 5], vec![9; short]));
+        assert_eq!(
+            call("a", 5, WORK_WORDS + 2),
+            (11, vec![7; 5], cleared.clone())
+        );
+        let filled = vec![14, -3, 15, -4, 11, 0, 7, 7];
+        assert_eq!(call("a", 8, WORK_WORDS + 2), (0, filled, cleared.clone()));
+        assert_eq!(call("a&!a", 0, WORK_WORDS + 2), (0, vec![], cleared));
+    }
+
+    #[test]
+    fn the_front_is_empty_where_it_would_not_fit() {
+        assert_eq!(front(12, 2), 12);
+        assert_eq!(front(12, 3), 0);
+        assert_eq!(front(17, 2), 12);
+        assert_eq!(front(12, usize::MAX), 0);
+        assert_eq!(front(0, 0), 0);
+    }
+}

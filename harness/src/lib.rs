@@ -1,0 +1,26 @@
+//! A second drill finder, written from the papers alone, and what the proved one is compared
+//! with it by.
+//!
+//! Two matchers stand beside each other. [`zones`] follows document 01's rules for lists of
+//! zones, on plain words and fast: it must agree with the proved library byte for byte, and is
+//! what that one is timed against. [`brute`] knows nothing of zones and tries fractions, so that
+//! both are held to the meaning of a drill.
+
+#![deny(unsafe_code)]
+
+pub mod bench;
+pub mod brute;
+pub mod campaign;
+pub mod cases;
+pub mod drill;
+pub mod examples;
+pub mod finder;
+pub mod inputs;
+pub mod proved;
+pub mod random;
+pub mod recording;
+pub mod refusal;
+pub mod sheet;
+pub mod text;
+pub mod zone;
+pub mod zones;

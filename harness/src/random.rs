@@ -1,0 +1,190 @@
+//! Random numbers, recordings and drills, all from a seed.
+
+use crate::drill::{Band, Drill};
+use crate::recording::{encode, Change, Head};
+
+/// The splitmix64 generator.
+#[derive(Clone, Debug)]
+pub struct Rng(u64);
+
+impl Rng {
+    /// The numbers of one case of a seed: a case can be made again without those before it.
+    pub fn new(seed: u64, case: u64) -> Rng {
+        let mut rng = Rng(seed);
+        let start = rng.number() ^ case.wrapping_mul(0xD6E8_FEB8_6659_FD93);
+        Rng(start)
+    }
+
+    pub fn number(&mut self) -> u64 {
+        self.0 = self.0.wrapping_add(0x9E37_79B9_7F4A_7C15);
+        let mut z = self.0;
+        z = (z ^ (z >> 30)).wrapping_mul(0xBF58_476D_1CE4_E5B9);
+        z = (z ^ (z >> 27)).wrapping_mul(0x94D0_49BB_1331_11EB);
+        z ^ (z >> 31)
+    }
+
+    /// A number below n, for n above 0.
+    pub fn below(&mut self, n: u64) -> u64 {
+        self.number() % n
+    }
+
+    /// A number from low to high, both included.
+    pub fn between(&mut self, low: u32, high: u32) -> u32 {
+        low + self.below(u64::from(high - low) + 1) as u32
+    }
+
+    /// True once in n times.
+    pub fn once_in(&mut self, n: u64) -> bool {
+        self.below(n) == 0
+    }
+
+    pub fn pick<'a, T>(&mut self, from: &'a [T]) -> &'a T {
+        &from[self.below(from.len() as u64) as usize]
+    }
+
+    pub fn words(&mut self, count: usize) -> Vec<i32> {
+        (0..count).map(|_| self.number() as i32).collect()
+    }
+
+    pub fn bytes(&mut self, count: usize) -> Vec<u8> {
+        (0..count).map(|_| self.number() as u8).collect()
+    }
+}
+
+/// A sound recording with at most this many changes, at any milliseconds.
+pub fn recording(rng: &mut Rng, head: Head, changes: usize) -> Vec<u8> {
+    let mut times: Vec<u32> = (0..changes)
+        .map(|_| rng.between(0, head.duration - 1))
+        .collect();
+    times.sort_unstable();
+    times.dedup();
+    let known = ((1u32 << head.channels) - 1) as u16;
+    let changes: Vec<Change> = times
+        .into_iter()
+        .map(|time| Change {
+            time,
+            levels: rng.number() as u16 & known,
+        })
+        .collect();
+    encode(head, &changes)
+}
+
+/// What a random drill may be made of.
+#[derive(Clone, Copy, Debug)]
+pub struct Taste {
+    /// Letters, `!` with its letter and `_` in the drill, at most.
+    pub leaves: u32,
+    pub channels: u8,
+    /// The highest limit of a band.
+    pub limit: u32,
+    /// Whether `*` may stand in it.
+    pub stars: bool,
+}
+
+/// A random tree: joins down to single leaves, with bands and stars strewn over it.
+pub fn drill(rng: &mut Rng, taste: Taste) -> Drill {
+    let leaves = rng.between(1, taste.leaves);
+    tree(rng, taste, leaves)
+}
+
+fn tree(rng: &mut Rng, taste: Taste, leaves: u32) -> Drill {
+    let mut tree = if leaves == 1 {
+        leaf(rng, taste)
+    } else {
+        join(rng, taste, leaves)
+    };
+    while rng.once_in(4) {
+        tree = if taste.stars && rng.once_in(2) {
+            Drill::Star(Box::new(tree))
+        } else {
+            Drill::Within(Box::new(tree), band(rng, taste.limit))
+        };
+    }
+    tree
+}
+
+pub fn leaf(rng: &mut Rng, taste: Taste) -> Drill {
+    if rng.once_in(12) {
+        return Drill::Empty;
+    }
+    Drill::Letter {
+        channel: rng.below(taste.channels.into()) as u8,
+        high: !rng.once_in(3),
+    }
+}
+
+fn join(rng: &mut Rng, taste: Taste, leaves: u32) -> Drill {
+    let left_leaves = rng.between(1, leaves - 1);
+    let left = tree(rng, taste, left_leaves);
+    let right = tree(rng, taste, leaves - left_leaves);
+    joined(rng, left, right)
+}
+
+/// Two drills under a join, mostly `.`, which is where fractions come in.
+pub fn joined(rng: &mut Rng, left: Drill, right: Drill) -> Drill {
+    let (left, right) = (Box::new(left), Box::new(right));
+    match rng.below(6) {
+        0 => Drill::Both(left, right),
+        1 | 2 => Drill::Either(left, right),
+        _ => Drill::Then(left, right),
+    }
+}
+
+/// Mostly narrow bands, which make zones that differ.
+pub fn band(rng: &mut Rng, limit: u32) -> Band {
+    let lo = match rng.below(3) {
+        0 => 0,
+        1 => rng.between(0, limit.min(3)),
+        _ => rng.between(0, limit),
+    };
+    let hi = match rng.below(4) {
+        0 => None,
+        1 => Some(lo),
+        2 => Some(limit.min(lo + rng.between(0, 3))),
+        _ => Some(rng.between(lo, limit)),
+    };
+    Band { lo, hi }
+}
+
+/// The drill's text with brackets that it could do without.
+pub fn text(rng: &mut Rng, drill: &Drill) -> Vec<u8> {
+    let mut pairs = || usize::from(rng.once_in(6)) + usize::from(rng.once_in(20));
+    drill.text(&mut pairs).into_bytes()
+}
+
+#[cfg(test)]
+mod tests {
+    use super::*;
+    use crate::recording::Recording;
+
+    #[test]
+    fn random_recordings_are_sound() {
+        let mut rng = Rng::new(1, 1);
+        for _ in 0..200 {
+            let head = Head {
+                duration: rng.between(10, 120),
+                channels: rng.between(1, 16) as u8,
+            };
+            let bytes = recording(&mut rng, head, 10);
+            assert!(Recording::read(&bytes).is_ok());
+        }
+    }
+
+    #[test]
+    fn random_drills_read_back_as_they_were() {
+        let mut rng = Rng::new(1, 2);
+        let taste = Taste {
+            leaves: 6,
+            channels: 3,
+            limit: 12,
+            stars: true,
+        };
+        for _ in 0..2_000 {
+            let drill = drill(&mut rng, taste);
+            let text = text(&mut rng, &drill);
+            if text.len() <= crate::drill::MAX_LENGTH && drill.depth() <= 16 {
+                assert_eq!(Drill::read(&text, 3), Ok(drill));
+            }
+        }
+    }
+}

@@ -1,0 +1,435 @@
+//! Recordings: records of 8 bytes, a head and then changes (refusals 1 to 3).
+//!
+//! A recording is read in place: after the checks, the changes are decoded from the bytes each
+//! time they are walked.
+
+use std::fmt;
+
+use crate::refusal::Refusal;
+
+/// Bytes in a record, its two-byte mark included.
+pub const RECORD: usize = 8;
+/// The longest recording: a head and 4,095 changes.
+pub const MAX_LENGTH: usize = 32_768;
+pub const MAX_CHANGES: usize = MAX_LENGTH / RECORD - 1;
+pub const MAX_CHANNELS: u8 = 16;
+pub const DURATIONS: std::ops::RangeInclusive<u32> = 10..=10_000_000;
+
+const HEAD_MARK: [u8; 2] = [0x44, 0x52];
+const CHANGE_MARK: [u8; 2] = [0x43, 0x48];
+
+/// The tick of a time in milliseconds, to the nearest, halves up.
+pub fn tick(ms: u32) -> u32 {
+    (ms + 5) / 10
+}
+
+/// The fields of a head record.
+#[derive(Clone, Copy, Debug, PartialEq, Eq)]
+pub struct Head {
+    pub duration: u32,
+    pub channels: u8,
+}
+
+impl Head {
+    pub fn encode(self) -> [u8; RECORD] {
+        let [t0, t1, t2, t3] = self.duration.to_le_bytes();
+        let [m0, m1] = HEAD_MARK;
+        [m0, m1, t0, t1, t2, t3, self.channels, 0]
+    }
+
+    /// The fields, whatever their values, where the mark and the zero byte are in place.
+    pub fn decode(record: &[u8]) -> Option<Head> {
+        let in_place = record.len() == RECORD && record[..2] == HEAD_MARK && record[7] == 0;
+        in_place.then(|| Head {
+            duration: four_bytes(record),
+            channels: record[6],
+        })
+    }
+}
+
+/// The fields of a change record.
+#[derive(Clone, Copy, Debug, PartialEq, Eq)]
+pub struct Change {
+    pub time: u32,
+    /// Bit 0 is channel a.
+    pub levels: u16,
+}
+
+impl Change {
+    pub fn encode(self) -> [u8; RECORD] {
+        let [t0, t1, t2, t3] = self.time.to_le_bytes();
+        let [l0, l1] = self.levels.to_le_bytes();
+        let [m0, m1] = CHANGE_MARK;
+        [m0, m1, t0, t1, t2, t3, l0, l1]
+    }
+
+    /// The fields, whatever their values, where the mark is in place.
+    pub fn decode(record: &[u8]) -> Option<Change> {
+        let in_place = record.len() == RECORD && record[..2] == CHANGE_MARK;
+        in_place.then(|| Change::fields(record))
+    }
+
+    fn fields(record: &[u8]) -> Change {
+        Change {
+            time: four_bytes(record),
+            levels: u16::from_le_bytes([record[6], record[7]]),
+        }
+    }
+}
+
+fn four_bytes(record: &[u8]) -> u32 {
+    u32::from_le_bytes([record[2], record[3], record[4], record[5]])
+}
+
+/// The bytes of a recording, right or wrong.
+pub fn encode(head: Head, changes: &[Change]) -> Vec<u8> {
+    let mut bytes = head.encode().to_vec();
+    bytes.extend(changes.iter().flat_map(|change| change.encode()));
+    bytes
+}
+
+/// Why a recording is refused: the record, counted from 0 for the head, and what is wrong there.
+#[derive(Clone, Copy, Debug, PartialEq, Eq)]
+pub struct Fault {
+    pub refusal: Refusal,
+    pub record: usize,
+    pub cause: Cause,
+}
+
+impl fmt::Display for Fault {
+    fn fmt(&self, out: &mut fmt::Formatter) -> fmt::Result {
+        let Fault { refusal, cause, .. } = self;
+        write!(out, "{cause}; marks will print `{refusal}`")
+    }
+}
+
+/// Made into words only when it is printed, to keep words out of the timed reading.
+#[derive(Clone, Copy, Debug, PartialEq, Eq)]
+pub enum Cause {
+    /// A number of bytes.
+    NotWhole(usize),
+    /// A number of changes.
+    TooMany(usize),
+    /// A level is set for this channel, of so many.
+    NoChannel(u8, u8),
+    Other(&'static str),
+}
+
+impl fmt::Display for Cause {
+    fn fmt(&self, out: &mut fmt::Formatter) -> fmt::Result {
+        match *self {
+            Cause::NotWhole(bytes) => {
+                write!(out, "{bytes} bytes are not a number of whole records")
+            }
+            Cause::TooMany(changes) => {
+                let (changes, most) = (grouped(changes), grouped(MAX_CHANGES));
+                write!(out, "there are {changes} changes, and at most {most} fit")
+            }
+            Cause::NoChannel(channel, 1) => {
+                let channel = letter(channel);
+                write!(out, "`{channel}` is no channel here: the only one is `a`")
+            }
+            Cause::NoChannel(channel, channels) => {
+                let (channel, last) = (letter(channel), letter(channels - 1));
+                write!(
+                    out,
+                    "`{channel}` is not among the {channels} channels, `a` to `{last}`"
+                )
+            }
+            Cause::Other(words) => out.write_str(words),
+        }
+    }
+}
+
+/// A number with a comma before every three digits.
+fn grouped(number: usize) -> String {
+    match number {
+        0..1000 => number.to_string(),
+        _ => format!("{},{:03}", grouped(number / 1000), number % 1000),
+    }
+}
+
+/// The name of a channel, counted from 0.
+pub fn letter(channel: u8) -> char {
+    char::from(b'a' + channel)
+}
+
+/// A maximal run of ticks, from `start` up to but not including tick `end`: as times, the span
+/// from `start` to `end`.
+#[derive(Clone, Copy, Debug, PartialEq, Eq)]
+pub struct Run {
+    pub start: u32,
+    pub end: u32,
+}
+
+/// A recording with nothing wrong in it.
+#[derive(Clone, Copy, Debug)]
+pub struct Recording<'a> {
+    channels: u8,
+    /// The duration in ticks, document 01's d.
+    ticks: u32,
+    changes: &'a [u8],
+}
+
+impl<'a> Recording<'a> {
+    pub fn read(bytes: &'a [u8]) -> Result<Recording<'a>, Fault> {
+        check_length(bytes.len())?;
+        let (head, changes) = bytes.split_at(RECORD);
+        let head = read_head(head).map_err(|cause| Fault {
+            refusal: Refusal::Head,
+            record: 0,
+            cause,
+        })?;
+        check_changes(head, changes)?;
+        Ok(Recording {
+            channels: head.channels,
+            ticks: tick(head.duration),
+            changes,
+        })
+    }
+
+    pub fn channels(&self) -> u8 {
+        self.channels
+    }
+
+    pub fn ticks(&self) -> u32 {
+        self.ticks
+    }
+
+    /// The changes that stand, as tick and levels: of several on one tick the last.
+    fn standing(&self) -> impl Iterator<Item = (u32, u16)> + 'a {
+        let mut rest = self
+            .changes
+            .chunks_exact(RECORD)
+            .map(Change::fields)
+            .map(|change| (tick(change.time), change.levels))
+            .peekable();
+        std::iter::from_fn(move || loop {
+            let change = rest.next()?;
+            match rest.peek() {
+                Some(next) if next.0 == change.0 => continue,
+                _ => return Some(change),
+            }
+        })
+    }
+
+    /// The levels in each tick from 0 to d - 1, straight from the rule: those of the last change
+    /// at or before the tick, all low where there is none.
+    pub fn levels(&self) -> Vec<u16> {
+        let changes: Vec<Change> = self
+            .changes
+            .chunks_exact(RECORD)
+            .map(Change::fields)
+            .collect();
+        let at = |k: u32| changes.iter().rev().find(|change| tick(change.time) <= k);
+        (0..self.ticks)
+            .map(|k| at(k).map_or(0, |change| change.levels))
+            .collect()
+    }
+
+    /// Hands each maximal run of a channel at the given level to `found`, in rising time.
+    pub fn each_run<E>(
+        &self,
+        channel: u8,
+        high: bool,
+        mut found: impl FnMut(Run) -> Result<(), E>,
+    ) -> Result<(), E> {
+        let mut level = false;
+        let mut since = 0;
+        for (at, levels) in self.standing() {
+            let next = levels >> channel & 1 == 1;
+            if next == level {
+                continue;
+            }
+            if level == high && since < at {
+                found(Run {
+                    start: since,
+                    end: at,
+                })?;
+            }
+            (level, since) = (next, at);
+        }
+        // A change on tick d leaves nothing behind it.
+        if level == high && since < self.ticks {
+            found(Run {
+                start: since,
+                end: self.ticks,
+            })?;
+        }
+        Ok(())
+    }
+}
+
+/// The record at fault is the first that is cut short, or has no room.
+fn check_length(bytes: usize) -> Result<(), Fault> {
+    let records = bytes / RECORD;
+    let (record, cause) = if bytes == 0 || !bytes.is_multiple_of(RECORD) {
+        (records, Cause::NotWhole(bytes))
+    } else if bytes > MAX_LENGTH {
+        (MAX_CHANGES + 1, Cause::TooMany(records - 1))
+    } else {
+        return Ok(());
+    };
+    Err(Fault {
+        refusal: Refusal::RecordingLength,
+        record,
+        cause,
+    })
+}
+
+fn read_head(record: &[u8]) -> Result<Head, Cause> {
+    let wrong = Cause::Other("not a head: wrong mark, or its last byte is not 0");
+    let head = Head::decode(record).ok_or(wrong)?;
+    if !DURATIONS.contains(&head.duration) {
+        return Err(Cause::Other("the duration is not 10 to 10,000,000 ms"));
+    }
+    if !(1..=MAX_CHANNELS).contains(&head.channels) {
+        return Err(Cause::Other("the channel count is not 1 to 16"));
+    }
+    Ok(head)
+}
+
+fn check_changes(head: Head, changes: &[u8]) -> Result<(), Fault> {
+    let mut before = None;
+    for (index, record) in changes.chunks_exact(RECORD).enumerate() {
+        let change = read_change(head, before, record).map_err(|cause| Fault {
+            refusal: Refusal::Change,
+            record: index + 1,
+            cause,
+        })?;
+        before = Some(change.time);
+    }
+    Ok(())
+}
+
+fn read_change(head: Head, before: Option<u32>, record: &[u8]) -> Result<Change, Cause> {
+    let change = Change::decode(record).ok_or(Cause::Other("not a change: wrong mark"))?;
+    if change.time >= head.duration {
+        return Err(Cause::Other("the time is not below the duration"));
+    }
+    if before.is_some_and(|before| change.time <= before) {
+        let back = "the time is not above that of the change before";
+        return Err(Cause::Other(back));
+    }
+    let beyond = u32::from(change.levels) >> head.channels;
+    if beyond != 0 {
+        let channel = head.channels + beyond.trailing_zeros() as u8;
+        return Err(Cause::NoChannel(channel, head.channels));
+    }
+    Ok(change)
+}
+
+#[cfg(test)]
+mod tests {
+    use super::*;
+    use crate::examples::{recording, recording_r};
+
+    fn refused(bytes: &[u8]) -> Option<u32> {
+        Recording::read(bytes)
+            .err()
+            .map(|fault| fault.refusal.number())
+    }
+
+    fn runs(bytes: &[u8], channel: u8, high: bool) -> Vec<(u32, u32)> {
+        let mut runs = Vec::new();
+        let read = Recording::read(bytes).expect("a sound recording");
+        let all = read.each_run(channel, high, |run| {
+            runs.push((run.start, run.end));
+            Ok::<(), ()>(())
+        });
+        all.expect("nothing stops the walk");
+        runs
+    }
+
+    #[test]
+    fn r_has_one_run() {
+        let bytes = recording_r();
+        let read = Recording::read(&bytes).unwrap();
+        assert_eq!((read.ticks(), read.channels()), (10, 1));
+        assert_eq!(read.levels(), [0, 0, 1, 1, 1, 1, 1, 0, 0, 0]);
+        assert_eq!(runs(&bytes, 0, true), [(2, 7)]);
+        assert_eq!(runs(&bytes, 0, false), [(0, 2), (7, 10)]);
+    }
+
+    #[test]
+    fn ticks_round_to_the_nearest_and_halves_up() {
+        assert_eq!((tick(24), tick(25), tick(34), tick(35)), (2, 3, 3, 4));
+        assert_eq!(tick(10_000_000), 1_000_000);
+    }
+
+    #[test]
+    fn the_last_change_on_a_tick_stands_and_splits_no_run() {
+        // High at 48 and low again at 52: both are tick 5, so nothing happened.
+        let blip = recording(100, 1, &[(48, 1), (52, 0)]);
+        assert_eq!(runs(&blip, 0, false), [(0, 10)]);
+        assert_eq!(runs(&blip, 0, true), []);
+        let read = Recording::read(&blip).unwrap();
+        assert_eq!(read.levels(), [0; 10]);
+    }
+
+    #[test]
+    fn a_change_on_tick_d_has_no_effect() {
+        let late = recording(104, 1, &[(20, 1), (96, 0)]);
+        assert_eq!(runs(&late, 0, true), [(2, 10)]);
+        let rise = recording(104, 1, &[(97, 1)]);
+        assert_eq!(runs(&rise, 0, true), []);
+    }
+
+    #[test]
+    fn other_channels_split_no_run() {
+        let two = recording(100, 2, &[(10, 0b01), (30, 0b11), (60, 0b10)]);
+        assert_eq!(runs(&two, 0, true), [(1, 6)]);
+        assert_eq!(runs(&two, 1, true), [(3, 10)]);
+        assert_eq!(runs(&two, 1, false), [(0, 3)]);
+    }
+
+    #[test]
+    fn lengths_are_checked_before_the_head() {
+        assert_eq!(refused(&[]), Some(1));
+        assert_eq!(refused(&[0; 7]), Some(1));
+        assert_eq!(refused(&[0; 8]), Some(2));
+        assert_eq!(refused(&vec![0; MAX_LENGTH]), Some(2));
+        assert_eq!(refused(&vec![0; MAX_LENGTH + 1]), Some(1));
+        assert_eq!(refused(&vec![0; MAX_LENGTH + RECORD]), Some(1));
+    }
+
+    #[test]
+    fn a_wrong_length_says_what_is_wrong_with_it() {
+        let fault = |length| {
+            let fault = Recording::read(&vec![0; length]).expect_err("a fault");
+            (fault.record, fault.to_string())
+        };
+        let whole = "bytes are not a number of whole records; marks will print `refused 1`";
+        assert_eq!(fault(0), (0, format!("0 {whole}")));
+        assert_eq!(fault(17), (2, format!("17 {whole}")));
+        assert_eq!(fault(MAX_LENGTH + 1), (4_096, format!("32769 {whole}")));
+        let long = "there are 1,000,049 changes, and at most 4,095 fit; \
+                    marks will print `refused 1`";
+        assert_eq!(fault(1_000_050 * RECORD), (4_096, long.into()));
+    }
+
+    #[test]
+    fn every_field_of_the_head_counts() {
+        for (duration, channels) in [(9, 1), (10_000_001, 1), (10, 0), (10, 17)] {
+            assert_eq!(refused(&recording(duration, channels, &[])), Some(2));
+        }
+        for at in [0, 1, 7] {
+            let mut bytes = recording(10, 1, &[]);
+            bytes[at] ^= 1;
+            assert_eq!(refused(&bytes), Some(2));
+        }
+        assert_eq!(refused(&recording(10, 1, &[])), None);
+        assert_eq!(refused(&recording(10_000_000, 16, &[])), None);
+    }
+
+    #[test]
+    fn every_field_of_a_change_counts() {
+        assert_eq!(refused(&recording(100, 1, &[(0, 1), (99, 0)])), None);
+        assert_eq!(refused(&recording(100, 1, &[(100, 0)])), Some(3));
+        assert_eq!(refused(&recording(100, 1, &[(7, 0), (7, 1)])), Some(3));
+        assert_eq!(refused(&recording(100, 1, &[(7, 2)])), Some(3));
+        assert_eq!(refused(&recording(100, 16, &[(7, 0xFFFF)])), None);
+        let second_head = [recording(100, 1, &[]), recording(100, 1, &[])].concat();
+        assert_eq!(refused(&second_head), Some(3));
+    }
+}

@@ -1,0 +1,270 @@
+//! Zones, directly on the words of the answer buffer.
+//!
+//! A limit v is the word 2v + 1 where it is reached and 2v where it is not, so the order of
+//! limits is the order of words. The arithmetic knows nothing of recordings or drills.
+
+/// Words in a zone.
+pub const WORDS: usize = 6;
+
+/// Upper limits on start, -start, end, -end, end - start and start - end, in that order, tight
+/// and with at least one stretch between them.
+#[derive(Clone, Copy, Debug, PartialEq, Eq)]
+pub struct Zone([i32; WORDS]);
+
+/// The word of a limit that is reached.
+pub fn reached(v: i32) -> i32 {
+    2 * v + 1
+}
+
+/// The word of a limit that is not reached.
+pub fn not_reached(v: i32) -> i32 {
+    2 * v
+}
+
+/// The sum of two limits is reached if both are.
+#[inline(always)]
+fn sum(x: i32, y: i32) -> i32 {
+    x + y - ((x | y) & 1)
+}
+
+/// Whether an upper limit on a quantity and one on its negation leave no value: they sum to less
+/// than a reached 0.
+#[inline(always)]
+fn apart(limit: i32, minus_limit: i32) -> bool {
+    sum(limit, minus_limit) < 1
+}
+
+impl Zone {
+    /// The stretches inside a run: s ≤ start, end ≤ e and start < end, for s < e.
+    pub fn run(s: i32, e: i32) -> Zone {
+        Zone([
+            not_reached(e),
+            reached(-s),
+            reached(e),
+            not_reached(-s),
+            reached(e - s),
+            not_reached(0),
+        ])
+    }
+
+    /// The stretches of length 0 from 0 to d.
+    pub fn diagonal(d: i32) -> Zone {
+        Zone([
+            reached(d),
+            reached(0),
+            reached(d),
+            reached(0),
+            reached(0),
+            reached(0),
+        ])
+    }
+
+    /// A zone as it stands in an answer buffer.
+    pub fn from_words(words: [i32; WORDS]) -> Zone {
+        Zone(words)
+    }
+
+    pub fn words(&self) -> &[i32; WORDS] {
+        &self.0
+    }
+
+    /// Whether each stretch of the other zone is one of this zone: both being tight, whether each
+    /// limit is at least the other's.
+    #[inline(always)]
+    pub fn contains(&self, other: &Zone) -> bool {
+        let [s, ms, e, me, l, ml] = self.0;
+        let [os, oms, oe, ome, ol, oml] = other.0;
+        oe <= e && oms <= ms && ol <= l && os <= s && ome <= me && oml <= ml
+    }
+
+    /// Whether a stretch lies in the zone, its ends given in parts of a tick.
+    pub fn has(&self, start: i64, end: i64, parts: i64) -> bool {
+        let quantities = [start, -start, end, -end, end - start, start - end];
+        self.0.iter().zip(quantities).all(|(&word, quantity)| {
+            let (limit, is_reached) = (i64::from(word >> 1) * parts, word & 1 == 1);
+            quantity < limit || (is_reached && quantity == limit)
+        })
+    }
+
+    /// The stretches of both zones, if any.
+    #[inline]
+    pub fn meet(&self, other: &Zone) -> Option<Zone> {
+        let [s, ms, ..] = self.0;
+        let [other_s, other_ms, ..] = other.0;
+        // Most zones of long lists lie in different parts of the drive.
+        if apart(s, other_ms) || apart(other_s, ms) {
+            return None;
+        }
+        tighten(std::array::from_fn(|k| self.0[k].min(other.0[k])))
+    }
+
+    /// The stretches of the zone with lo ≤ length ≤ hi, if any; no hi is no upper limit.
+    pub fn within(&self, lo: i32, hi: Option<i32>) -> Option<Zone> {
+        let [s, ms, e, me, l, ml] = self.0;
+        let l = hi.map_or(l, |hi| l.min(reached(hi)));
+        tighten([s, ms, e, me, l, ml.min(reached(-lo))])
+    }
+
+    /// The stretches with some cut whose left part lies in this zone and right part in the next.
+    ///
+    /// The four times 0, start, cut and end make a graph of two triangles, one for each zone,
+    /// that share the edge from 0 to the cut. Each triangle is tight already, so a stretch exists
+    /// as soon as the two ranges of the cut meet, and a limit of the result is the smaller of two
+    /// ways round: a way that takes a third edge is never shorter.
+    #[inline(always)]
+    pub fn compose(&self, next: &Zone) -> Option<Zone> {
+        let [s, ms, cut, minus_cut, l, ml] = self.0;
+        let [next_cut, minus_next_cut, e, me, next_l, next_ml] = next.0;
+        if apart(cut, minus_next_cut) || apart(next_cut, minus_cut) {
+            return None;
+        }
+        let s = s.min(sum(next_cut, ml));
+        let ms = ms.min(sum(minus_next_cut, l));
+        let e = e.min(sum(cut, next_l));
+        let me = me.min(sum(minus_cut, next_ml));
+        Some(Zone([
+            s,
+            ms,
+            e,
+            me,
+            sum(l, next_l).min(sum(e, ms)),
+            sum(ml, next_ml).min(sum(s, me)),
+        ]))
+    }
+}
+
+/// The shortest ways between the three times 0, start and end, each time taken once as the place
+/// to go through; nothing where some way round comes back below 0.
+fn tighten([s, ms, e, me, l, ml]: [i32; WORDS]) -> Option<Zone> {
+    let l = l.min(sum(e, ms));
+    let ml = ml.min(sum(s, me));
+    let e = e.min(sum(s, l));
+    let me = me.min(sum(ms, ml));
+    let s = s.min(sum(e, ml));
+    let ms = ms.min(sum(me, l));
+    let empty = apart(s, ms) || apart(e, me) || apart(l, ml);
+    (!empty).then_some(Zone([s, ms, e, me, l, ml]))
+}
+
+#[cfg(test)]
+mod tests {
+    use super::*;
+    use crate::random::Rng;
+
+    const NONE: i32 = 1 << 20;
+
+    /// Any limits between 0 and 6 that leave a stretch.
+    fn any_zone(rng: &mut Rng) -> Zone {
+        loop {
+            let mut limit = || rng.below(14) as i32;
+            let upper = [limit(), limit(), limit()];
+            let lower = [1 - limit(), 1 - limit(), 1 - limit()];
+            let words = [upper[0], lower[0], upper[1], lower[1], upper[2], lower[2]];
+            if let Some(zone) = tighten(words) {
+                return zone;
+            }
+        }
+    }
+
+    /// Shortest ways among four times by trying every middle, with a row and a column for each
+    /// of 0, start, cut and end; nothing where the limits leave no times.
+    fn closed(mut limits: [[i32; 4]; 4]) -> Option<[[i32; 4]; 4]> {
+        for middle in 0..4 {
+            for from in 0..4 {
+                for to in 0..4 {
+                    let way = sum(limits[from][middle], limits[middle][to]);
+                    limits[from][to] = limits[from][to].min(way);
+                }
+            }
+        }
+        (0..4).all(|k| limits[k][k] >= 1).then_some(limits)
+    }
+
+    /// Writes a zone's limits on the times at two places of the table.
+    fn place(limits: &mut [[i32; 4]; 4], zone: &Zone, start: usize, end: usize) {
+        let [s, ms, e, me, l, ml] = zone.0;
+        let edges = [
+            (start, 0, s),
+            (0, start, ms),
+            (end, 0, e),
+            (0, end, me),
+            (end, start, l),
+            (start, end, ml),
+        ];
+        for (from, to, limit) in edges {
+            limits[from][to] = limits[from][to].min(limit);
+        }
+    }
+
+    fn composed_by_elimination(left: &Zone, right: &Zone) -> Option<Zone> {
+        let mut limits = [[NONE; 4]; 4];
+        for (k, row) in limits.iter_mut().enumerate() {
+            row[k] = reached(0);
+        }
+        place(&mut limits, left, 1, 2);
+        place(&mut limits, right, 2, 3);
+        let shortest = closed(limits)?;
+        let [start, end] = [1, 3];
+        Some(Zone([
+            shortest[start][0],
+            shortest[0][start],
+            shortest[end][0],
+            shortest[0][end],
+            shortest[end][start],
+            shortest[start][end],
+        ]))
+    }
+
+    #[test]
+    fn composition_eliminates_the_cut() {
+        let mut rng = Rng::new(1, 0);
+        let mut left_something = 0;
+        for _ in 0..50_000 {
+            let (left, right) = (any_zone(&mut rng), any_zone(&mut rng));
+            let composed = left.compose(&right);
+            let expected = composed_by_elimination(&left, &right);
+            assert_eq!(composed, expected, "{left:?} {right:?}");
+            left_something += usize::from(composed.is_some());
+        }
+        assert!((5_000..45_000).contains(&left_something));
+    }
+
+    #[test]
+    fn sums_and_order_of_words() {
+        assert_eq!(sum(reached(3), reached(-5)), reached(-2));
+        assert_eq!(sum(reached(3), not_reached(-5)), not_reached(-2));
+        assert_eq!(sum(not_reached(3), not_reached(-5)), not_reached(-2));
+        assert!(not_reached(4) < reached(4) && reached(4) < not_reached(5));
+    }
+
+    #[test]
+    fn meets_hold_the_stretches_of_both() {
+        let mut rng = Rng::new(2, 0);
+        for _ in 0..2_000 {
+            let (left, right) = (any_zone(&mut rng), any_zone(&mut rng));
+            let meet = left.meet(&right);
+            for start in 0..=12 {
+                for end in start..=12 {
+                    let in_both = left.has(start, end, 2) && right.has(start, end, 2);
+                    let in_meet = meet.is_some_and(|zone| zone.has(start, end, 2));
+                    assert_eq!(in_meet, in_both);
+                }
+            }
+        }
+    }
+
+    #[test]
+    fn strictness_survives_a_composition() {
+        let run = Zone::run(2, 7);
+        assert_eq!(run.compose(&run), Some(run));
+        assert!(!run.has(2, 2, 1) && run.has(2, 3, 1) && run.has(2, 7, 1));
+        assert!(run.has(7, 8, 3) && !run.has(7, 22, 3));
+    }
+
+    #[test]
+    fn the_order_of_operands_matters() {
+        let (early, late) = (Zone::run(2, 5), Zone::run(5, 9));
+        assert!(early.compose(&late).is_some());
+        assert_eq!(late.compose(&early), None);
+    }
+}
