@@ -1,5 +1,5 @@
 -- Tightening keeps the members, and its answer is tight; the meet holds what both zones hold.
-use mathlib.Core.Path.{_≡_, refl, ap, _∙_}
+use mathlib.Core.Path.{_≡_, refl, sym, ap, _∙_}
 use mathlib.Core.Bool.{cond}
 use mathlib.Core.Logic.{_↔_}
 use Prim.Native.Nat.{ℕ, _-_, _<_, _≤_}
@@ -203,3 +203,23 @@ unfolding tighten
 tighten-same {z} h =
     ap (λ (t : Zone). where-room (t .start) (t .nstart) (where-room (t .end) (t .nend) (where-room (t .length) (t .nlength) (zone t)))) (tighter-same h)
     ∙ room-same (z .start) (z .nstart) (h .round-start) ∙ room-same (z .end) (z .nend) (h .round-end) ∙ room-same (z .length) (z .nlength) (h .round-length)
+
+-- ---- a test for room that comes first changes no answer: higher limits leave no less room than lower ones
+
+room-first : {l m l′ m′ : Limit} (a : MaybeZone) → l ≤ᴸ l′ → m ≤ᴸ m′ → where-room l′ m′ (where-room l m a) ≡ where-room l m a
+room-first {l} {m} {l′} {m′} a g h =
+    room-is l′ m′ (where-room l m a) (λ r. r ≡ where-room l m a) (λ _. refl)
+    (λ n. sym (room-is l m a (λ r. r ≡ empty) (λ p. absurd (n (≤-trans p (⊕-mono g h)))) (λ _. refl)))
+
+tighten-first : (z : Zone) {l m : Limit} → z .start ≤ᴸ l → z .nstart ≤ᴸ m → where-room l m (tighten z) ≡ tighten z
+unfolding tighten
+tighten-first z g h = room-first _ (≤-trans (tighter-⊑ z .start) g) (≤-trans (tighter-⊑ z .nstart) h)
+
+-- the starts of one zone against those of the other
+pub meet-first-l : (z w : Zone) → where-room (z .start) (w .nstart) (meet z w) ≡ meet z w
+unfolding meet
+meet-first-l z w = tighten-first (both z w) (both-l z w .start) (both-r z w .nstart)
+
+pub meet-first-r : (z w : Zone) → where-room (w .start) (z .nstart) (meet z w) ≡ meet z w
+unfolding meet
+meet-first-r z w = tighten-first (both z w) (both-r z w .start) (both-l z w .nstart)

@@ -207,12 +207,22 @@ impl Zone {
         }
     }
 
-    // The stretches of both.
+    // The stretches of both. Zones whose starts lie apart, as most of two long lists do, are Empty at once.
     pub fn meet(self, other: Zone) -> MaybeZone
         requires { ⌜ (Ranged 1_000_000 self) × (Ranged 1_000_000 other) ⌝ }
         ensures value { λ r. ⌜ r ≡ meet self other ⌝ }
         ensures meaning { λ r. ⌜ Meets self other r ⌝ }
     {
+        let starts = self.start;
+        let other_nstarts = other.nstart;
+        if !starts.leaves_room(other_nstarts) {
+            return MaybeZone::Empty;
+        }
+        let nstarts = self.nstart;
+        let other_starts = other.start;
+        if !other_starts.leaves_room(nstarts) {
+            return MaybeZone::Empty;
+        }
         self.both(other).tighten()
     }
 

@@ -1,24 +1,60 @@
 use Rattle.zone.proofs.Ranges.{ranged-both}
 use Rattle.zone.proofs.Means.{meet-means}
-use Rattle.zone.specs.Zone.{meet, tighten, Ranged}
+use Rattle.zone.proofs.Steps.{no-room}
+use Rattle.zone.proofs.Tighten.{meet-first-l, meet-first-r}
+use Rattle.zone.specs.Zone.{empty, meet, tighten}
 use mathlib.Core.Path.{_≡_, ap, _∙_}
 use borrow.Author.Needs.{needs}
 use Rattle.zone.proofs.Zone.meet.Statement.{statement}
 use Rattle.zone.proofs.Zone.meet.Tie as tie
 use Rattle.zone.proofs.Zone.meet.Reads as reads
 use Rattle.zone.proofs.Zone.meet.Lts as lts
+use Rattle.zone.proofs.Limit.leaves_room.Reads as leaves-room-reads
 use Rattle.zone.proofs.Zone.both.Reads as both-reads
 use Rattle.zone.proofs.Zone.tighten.Reads as tighten-reads
+
+leaves-room-requires : tie.Need-leaves-room-requires
+leaves-room-requires c κs = search needs
+
+returns : tie.Need-returns
+returns c =
+    let z = c .before .before .args .self in
+    let w = c .before .before .args .other in
+    let v : empty ≡ meet z w = no-room _ _ (meet z w) (c .before .leaves-room .ensures) (c .if1 .taken) ∙ meet-first-l z w in
+    (v, meet-means z w v)
+
+leaves-room-requires-2 : tie.Need-leaves-room-requires-2
+leaves-room-requires-2 c κs = search needs
+
+returns-2 : tie.Need-returns-2
+returns-2 c =
+    let z = c .before .before .before .before .args .self in
+    let w = c .before .before .before .before .args .other in
+    let v : empty ≡ meet z w = no-room _ _ (meet z w) (c .before .leaves-room2 .ensures) (c .if2 .taken) ∙ meet-first-r z w in
+    (v, meet-means z w v)
 
 both-requires : tie.Need-both-requires
 both-requires c κs = search needs
 
 tighten-requires : tie.Need-tighten-requires
-tighten-requires c κs = rw (c .both .ensures) (ranged-both (c .before .args .self) (c .before .args .other) (c .before .pre .0) (c .before .pre .1))
+tighten-requires c κs = rw (c .both .ensures) (ranged-both (c .before .before .before .before .before .args .self) (c .before .before .before .before .before .args .other) (c .before .before .before .before .before .pre .0) (c .before .before .before .before .before .pre .1))
 
-returns : tie.Need-returns
+returns-3 : tie.Need-returns-3
 unfolding meet
-returns c = let v : c .tighten .result ≡ meet (c .before .before .args .self) (c .before .before .args .other) = c .tighten .ensures .0 ∙ ap tighten (c .before .both .ensures) in (v, meet-means (c .before .before .args .self) (c .before .before .args .other) v)
+returns-3 c =
+    let z = c .before .before .before .before .before .before .args .self in
+    let w = c .before .before .before .before .before .before .args .other in
+    let v : c .tighten .result ≡ meet z w = c .tighten .ensures .0 ∙ ap tighten (c .before .both .ensures) in
+    (v, meet-means z w v)
 
 pub meet-spec : {M : Type 1} → statement M
-meet-spec = tie.close (tie.spec both-requires tighten-requires returns)
+meet-spec =
+    tie.close
+    (tie.spec
+    leaves-room-requires
+    returns
+    leaves-room-requires-2
+    returns-2
+    both-requires
+    tighten-requires
+    returns-3)
