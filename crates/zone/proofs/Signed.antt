@@ -8,8 +8,8 @@ use mir.Syntax.{w32}
 use mir.Val.{SFits, toZ, ofZ}
 use mir.ValLaws.{sfits-le}
 use Rattle.signed.proofs.Integers.{arithZ, sum, diff, neg, size, half, times}
-use Rattle.signed.proofs.Machine.{back, fits-by}
-use Rattle.zone.specs.Limit.{AtMost, Below, decode}
+use Rattle.signed.proofs.Machine.{back, fits-by, op-fits, op-is}
+use Rattle.zone.specs.Limit.{Limit, AtMost, Below, Small, code, decode}
 
 -- the sum that a call of `add` gives, kept in a local
 pub sum-back : {x y r : ℤ} → SFits w32 x → SFits w32 y → SFits w32 r → r ≡ toZ w32 (ofZ w32 x) +ℤ toZ w32 (ofZ w32 y) → toZ w32 (ofZ w32 r) ≡ x +ℤ y
@@ -41,7 +41,7 @@ module _ {n : ℕ} {r : ℤ} (h : n ≤ 1_000_000) (f : SFits w32 r) (e : r ≡ 
   negated-is = rw (back f, e) (back negated ∙ +ℤ-idl (negℤ (pos n)))
 
 -- the word of a number
-module _ {v : ℤ} (f : SFits w32 v) (h : mag v ≤ 1_000_000) where
+module _ {v : ℤ} (f : SFits w32 v) (h : mag v ≤ 4_000_000) where
   twice : SFits w32 (v *ℤ pos 2)
   twice = fits-by (omega (arithZ, times v 2, size v, size (v *ℤ pos 2)))
 
@@ -79,3 +79,18 @@ module _ {w : ℤ} (f : SFits w32 w) where
 
   pub decode-even : ltZ (toZ w32 (ofZ w32 (toZ w32 (ofZ w32 (shrZ (toZ w32 (ofZ w32 w)) 2)) *ℤ pos 2))) (toZ w32 (ofZ w32 w)) ≡ false → Below (toZ w32 (ofZ w32 (shrZ (toZ w32 (ofZ w32 w)) 2))) ≡ decode w
   decode-even t = let q : ltZ (shrZ w 2 *ℤ pos 2) w ≡ false = rw (whole-is, back f) at t in rw (half-is, q)
+
+-- the sum of two words
+code-small : (l : Limit) → Small 4_000_000 l → mag (code l) ≤ 8_000_001
+code-small (AtMost v) h = omega (arithZ, times v 2, sum (v *ℤ pos 2) (pos 1), size v, size (v *ℤ pos 2 +ℤ pos 1))
+code-small (Below v) h = omega (arithZ, times v 2, size v, size (v *ℤ pos 2))
+
+module _ (l m : Limit) {x y : ℤ} (fx : SFits w32 x) (fy : SFits w32 y) (p : x ≡ code l) (q : y ≡ code m) (hl : Small 4_000_000 l) (hm : Small 4_000_000 m) where
+  total : SFits w32 (x +ℤ y)
+  total = rw (p, q) (fits-by (omega (arithZ, sum (code l) (code m), size (code l), size (code m), size (code l +ℤ code m), code-small l hl, code-small m hm)))
+
+  pub total-fits : SFits w32 (toZ w32 (ofZ w32 x) +ℤ toZ w32 (ofZ w32 y))
+  total-fits = op-fits _+ℤ_ fx fy total
+
+  pub total-is : toZ w32 (ofZ w32 (toZ w32 (ofZ w32 x) +ℤ toZ w32 (ofZ w32 y))) ≡ code l +ℤ code m
+  total-is = op-is _+ℤ_ fx fy total ∙ rw (p, q)

@@ -11,7 +11,7 @@ use lib.Signed.{leZ, ltZ, shrZ}
 use lib.ListN.{length, getD, set, take, drop, length-append, length-take, length-drop, List·getD-append}
 use lib.Seq.{sets-eq, length-take-le, getD-append-add, getD-take, getD-drop}
 use Rattle.signed.proofs.Integers.{arithZ, sum, half, times}
-use Rattle.zone.specs.Limit.{Limit, AtMost, Below, at-most, code, decode}
+use Rattle.zone.specs.Limit.{Limit, AtMost, Below, at-most, _⊕_, nought, code, decode}
 use Rattle.zone.specs.Zone.{Zone, contains}
 use Rattle.zone.specs.Words.{word, codes, zoneAt, overwrite}
 
@@ -51,6 +51,14 @@ code-order (AtMost a) (AtMost b) = same-test _ _ (λ t. omega (arithZ, t, times 
 code-order (AtMost a) (Below b) = same-test _ _ (λ t. omega (arithZ, t, times a 2, times b 2, sum (a *ℤ pos 2) (pos 1))) (λ t. omega (arithZ, t, times a 2, times b 2, sum (a *ℤ pos 2) (pos 1)))
 code-order (Below a) (AtMost b) = same-test _ _ (λ t. omega (arithZ, t, times a 2, times b 2, sum (b *ℤ pos 2) (pos 1))) (λ t. omega (arithZ, t, times a 2, times b 2, sum (b *ℤ pos 2) (pos 1)))
 code-order (Below a) (Below b) = same-test _ _ (λ t. omega (arithZ, t, times a 2, times b 2)) (λ t. omega (arithZ, t, times a 2, times b 2))
+
+-- a limit and one on the negated quantity leave room where their words come to 2 or more
+pub code-room : (l m : Limit) → at-most nought (l ⊕ m) ≡ leZ (pos 2) (code l +ℤ code m)
+unfolding _⊕_
+code-room (AtMost a) (AtMost b) = same-test _ _ (λ t. omega (arithZ, t, times a 2, times b 2, sum a b, sum (a *ℤ pos 2) (pos 1), sum (b *ℤ pos 2) (pos 1), sum (a *ℤ pos 2 +ℤ pos 1) (b *ℤ pos 2 +ℤ pos 1))) (λ t. omega (arithZ, t, times a 2, times b 2, sum a b, sum (a *ℤ pos 2) (pos 1), sum (b *ℤ pos 2) (pos 1), sum (a *ℤ pos 2 +ℤ pos 1) (b *ℤ pos 2 +ℤ pos 1)))
+code-room (AtMost a) (Below b) = same-test _ _ (λ t. omega (arithZ, t, times a 2, times b 2, sum a b, sum (a *ℤ pos 2) (pos 1), sum (a *ℤ pos 2 +ℤ pos 1) (b *ℤ pos 2))) (λ t. omega (arithZ, t, times a 2, times b 2, sum a b, sum (a *ℤ pos 2) (pos 1), sum (a *ℤ pos 2 +ℤ pos 1) (b *ℤ pos 2)))
+code-room (Below a) (AtMost b) = same-test _ _ (λ t. omega (arithZ, t, times a 2, times b 2, sum a b, sum (b *ℤ pos 2) (pos 1), sum (a *ℤ pos 2) (b *ℤ pos 2 +ℤ pos 1))) (λ t. omega (arithZ, t, times a 2, times b 2, sum a b, sum (b *ℤ pos 2) (pos 1), sum (a *ℤ pos 2) (b *ℤ pos 2 +ℤ pos 1)))
+code-room (Below a) (Below b) = same-test _ _ (λ t. omega (arithZ, t, times a 2, times b 2, sum a b, sum (a *ℤ pos 2) (b *ℤ pos 2))) (λ t. omega (arithZ, t, times a 2, times b 2, sum a b, sum (a *ℤ pos 2) (b *ℤ pos 2)))
 
 pub decode-order : (a b : ℤ) → at-most (decode a) (decode b) ≡ leZ a b
 decode-order a b = code-order (decode a) (decode b) ∙ rw (code-decode a, code-decode b)

@@ -103,17 +103,18 @@ impl Limit {
         self.lesser(a.plus(b))
     }
 
-    // Whether this limit and the one on the negated quantity leave room between them.
+    // Whether this limit and the one on the negated quantity leave room between them: on the words, of which it takes
+    // the least work.
     fn leaves_room(self, negated: Limit) -> bool
         requires { ⌜ (Small 4_000_000 self) × (Small 4_000_000 negated) ⌝ }
         ensures { λ r. ⌜ r ≡ at-most nought (self ⊕ negated) ⌝ }
     {
-        Limit::AtMost(0).at_most(self.plus(negated))
+        2 <= self.word() + negated.word()
     }
 
     // The word of a limit: twice its number, and one more where it is reached.
     pub fn word(self) -> i32
-        requires { ⌜ Small 1_000_000 self ⌝ }
+        requires { ⌜ Small 4_000_000 self ⌝ }
         ensures { λ r. ⌜ r ≡ code self ⌝ }
     {
         match self {
