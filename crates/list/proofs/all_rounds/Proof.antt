@@ -5,9 +5,6 @@ use mathlib.Core.Path.{_∙_}
 use Prim.Native.Nat.{_+_, _-_}
 use Rattle.list.proofs.all_rounds.Statement.{statement}
 use Rattle.list.proofs.all_rounds.Tie as tie
-use Rattle.list.proofs.all_rounds.Reads as reads
-use Rattle.list.proofs.all_rounds.Lts as lts
-use Rattle.list.proofs.one_round.Reads as one-round-reads
 
 abbrev Inv-loop : tie.InvT-loop
 Inv-loop words₀ inner m first second list₀ copy₀ n₀ made₀ words list copy n made = Turning inner m first second words₀ words list copy n made
@@ -32,26 +29,17 @@ one-round-requires c κs =
       turn-inner (c .before .before .pre .0) (c .before .before .pre .3) (c .before .before .pre .4) (c .before .before .pre .5) t,
     )
 
-enum-told : tie.Need-enum-told Inv-loop μ-loop
-enum-told c = search needs
-
 same-length : tie.Need-same-length Inv-loop μ-loop
 same-length c = c .before .before .before .one-round .ensures .1 .same-length ∙ c .before .before .before .before .before .loop .inv .frame .same-length
 
 returns : tie.Need-returns Inv-loop μ-loop
 returns c = (turn-end (c .before .before .before .before .before .before .pre .0) (c .before .before .before .before .before .before .pre .3) (c .before .before .before .before .before .before .pre .4) (c .before .before .before .before .before .before .pre .5) (c .before .before .before .before .before .loop .inv) (rw (c .enum-told .given .1) at (c .before .before .before .one-round .ensures .0)) (c .before .before .before .one-round .ensures .1), turn-kept (c .before .before .before .before .before .before .pre .0) (c .before .before .before .before .before .before .pre .3) (c .before .before .before .before .before .before .pre .4) (c .before .before .before .before .before .before .pre .5) (c .before .before .before .before .before .loop .inv) (c .before .before .before .one-round .ensures .1))
 
-enum-known-k : tie.Need-enum-known-k Inv-loop μ-loop
-enum-known-k c = search needs
-
 loop-less : tie.Need-loop-less Inv-loop μ-loop
 loop-less c = omega (arith, turn-bound (c .before .before .before .before .before .before .before .pre .0) (c .before .before .before .before .before .before .before .pre .3) (c .before .before .before .before .before .before .before .pre .4) (c .before .before .before .before .before .before .before .pre .5) (c .before .before .before .before .before .before .loop .inv))
 
 loop-again : tie.Need-loop-again Inv-loop μ-loop
 loop-again c = turn-next (c .before .before .before .before .before .before .before .pre .0) (c .before .before .before .before .before .before .before .pre .3) (c .before .before .before .before .before .before .before .pre .4) (c .before .before .before .before .before .before .before .pre .5) (c .before .before .before .before .before .before .loop .inv) (rw (c .before .k .given .1) at (c .before .before .before .before .one-round .ensures .0)) (c .before .before .before .before .one-round .ensures .1)
-
-enum-told-2 : tie.Need-enum-told-2 Inv-loop μ-loop
-enum-told-2 c = search needs
 
 same-length-2 : tie.Need-same-length-2 Inv-loop μ-loop
 same-length-2 c = c .before .before .before .one-round .ensures .1 .same-length ∙ c .before .before .before .before .before .loop .inv .frame .same-length
@@ -62,18 +50,4 @@ returns-2 c = (turn-over (c .before .before .before .before .before .before .pre
 pub all-rounds-spec : {M : Type 1} → statement M
 all-rounds-spec =
     tie.close
-    (tie.spec
-    Inv-loop
-    μ-loop
-    loop-holds
-    add-made
-    one-round-requires
-    enum-told
-    same-length
-    returns
-    enum-known-k
-    loop-less
-    loop-again
-    enum-told-2
-    same-length-2
-    returns-2)
+    (tie.spec Inv-loop μ-loop loop-holds add-made one-round-requires (λ c. search needs) same-length returns (λ c. search needs) loop-less loop-again (λ c. search needs) same-length-2 returns-2)

@@ -12,16 +12,6 @@ use mathlib.Core.Path.{_≡_, refl, sym, ap, subst, _∙_}
 use borrow.Author.Needs.{needs}
 use Rattle.list.proofs.band.Statement.{statement}
 use Rattle.list.proofs.band.Tie as tie
-use Rattle.list.proofs.band.Reads as reads
-use Rattle.list.proofs.band.Lts as lts
-use Rattle.list.proofs.each_pair.Reads as each-pair-reads
-use Rattle.zone.proofs.write_zone.Reads as write-zone-reads
-
-enum-known-limits : tie.Need-enum-known-limits
-enum-known-limits c = search needs
-
-enum-told : tie.Need-enum-told
-enum-told c = search needs
 
 returns : tie.Need-returns
 unfolding banded listAt
@@ -42,15 +32,6 @@ each-pair-requires c κs =
       c .before .before .before .before .before .before .before .pre .4,
     )
 
-enum-known-count : tie.Need-enum-known-count
-enum-known-count c = search needs
-
-enum-told-2 : tie.Need-enum-told-2
-enum-told-2 c = search needs
-
-same-length : tie.Need-same-length
-same-length c = search needs
-
 returns-2 : tie.Need-returns-2
 unfolding banded listAt
 returns-2 c =
@@ -58,9 +39,6 @@ returns-2 c =
     let f = band-kept z _ _ (c .before .before .before .before .before .before .before .before .before .before .before .pre .1) (c .before .before .before .before .before .before .write-zone .ensures) in
     let e = rw (c .enum-told2 .given .1) at (c .before .before .before .each-pair .ensures .0) in
     (rw (c .before .before .before .before .before .before .before .before .before .limits .given .1) (rw (list-there (c .before .before .before .before .before .before .before .before .before .before .before .args .source) (c .before .before .before .before .before .before .before .before .before .before .before .args .n) f (c .before .before .before .before .before .before .before .before .before .before .before .pre .5) (c .before .before .before .before .before .before .before .before .before .before .before .pre .0 .few), band-alone z _ _ (c .before .before .before .before .before .before .before .before .before .before .before .pre .1) (c .before .before .before .before .before .before .write-zone .ensures)) at e), kept-both f (c .before .before .before .each-pair .ensures .1))
-
-same-length-2 : tie.Need-same-length-2
-same-length-2 c = search needs
 
 returns-3 : tie.Need-returns-3
 unfolding banded listAt
@@ -73,15 +51,4 @@ returns-3 c =
 pub band-spec : {M : Type 1} → statement M
 band-spec =
     tie.close
-    (tie.spec
-    enum-known-limits
-    enum-told
-    returns
-    write-zone-requires
-    each-pair-requires
-    enum-known-count
-    enum-told-2
-    same-length
-    returns-2
-    same-length-2
-    returns-3)
+    (tie.spec (λ c. search needs) (λ c. search needs) returns write-zone-requires each-pair-requires (λ c. search needs) (λ c. search needs) (λ c. search needs) returns-2 (λ c. search needs) returns-3)

@@ -8,24 +8,15 @@ use mathlib.Core.Path.{_≡_, refl, sym, ap}
 use borrow.Author.Needs.{needs}
 use Rattle.list.proofs.bring.Statement.{statement}
 use Rattle.list.proofs.bring.Tie as tie
-use Rattle.list.proofs.bring.Reads as reads
-use Rattle.list.proofs.bring.Lts as lts
-use Rattle.list.proofs.copy_words.Reads as copy-words-reads
 
 returns : tie.Need-returns
 returns c = (ap (λ (a : ℕ). listAt (c .before .args .words .now) a (c .before .args .n)) (sym (c .if1 .taken)), kept-refl _ _ _)
 
-mul-copy-words : tie.Need-mul-copy-words
-mul-copy-words c = search needs
-
 copy-words-requires : tie.Need-copy-words-requires
 copy-words-requires c κs = (omega arith, omega arith, ⊎-elim (λ e. absurd (c .before .if1 .left e)) (λ d. copy-order d (c .before .before .pre .0)) (c .before .before .pre .3))
-
-same-length : tie.Need-same-length
-same-length c = search needs
 
 returns-2 : tie.Need-returns-2
 returns-2 c = (listAt-copied (c .before .before .before .before .args .n) (c .before .copy-words .ensures), copy-kept (c .before .before .before .before .pre .0) (c .before .copy-words .ensures))
 
 pub bring-spec : {M : Type 1} → statement M
-bring-spec = tie.close (tie.spec returns mul-copy-words copy-words-requires same-length returns-2)
+bring-spec = tie.close (tie.spec returns (λ c. search needs) copy-words-requires (λ c. search needs) returns-2)

@@ -1,14 +1,11 @@
 use Prim.Native.Nat.{_≤_, _-_, _+_}
 use mathlib.Core.Path.{_≡_}
 use native.Mathlib.Omega.{arith}
-use borrow.Author.Needs.{needs}
 use Rattle.signed.proofs.Machine.{back}
 use Rattle.list.specs.Steps.{Copied}
 use Rattle.list.proofs.Slots.{copied-none, copied-more}
 use Rattle.list.proofs.copy_words.Statement.{statement}
 use Rattle.list.proofs.copy_words.Tie as tie
-use Rattle.list.proofs.copy_words.Reads as reads
-use Rattle.list.proofs.copy_words.Lts as lts
 
 abbrev Inv-loop : tie.InvT-loop
 Inv-loop words₀ from to n k₀ words k = (k ≤ n) × Copied from to k words₀ words

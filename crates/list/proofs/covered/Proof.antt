@@ -8,9 +8,6 @@ use mathlib.Core.Path.{_≡_, ap}
 use Prim.Native.Nat.{ℕ, _+_, _-_, _*_, _≤_}
 use Rattle.list.proofs.covered.Statement.{statement}
 use Rattle.list.proofs.covered.Tie as tie
-use Rattle.list.proofs.covered.Reads as reads
-use Rattle.list.proofs.covered.Lts as lts
-use Rattle.zone.proofs.included.Reads as included-reads
 
 abbrev Inv-loop : tie.InvT-loop
 Inv-loop words base count w i₀ i = (i ≤ count) × (covered (zoneAt w 0) (listAt words (base + i * 6) (count - i)) ≡ covered (zoneAt w 0) (listAt words base count))

@@ -12,10 +12,6 @@ use mathlib.Core.Path.{_≡_, refl, sym, ap, subst, _∙_}
 use Prim.Native.Nat.{_+_, _-_, _*_, _≤_}
 use Rattle.list.proofs.each_pair.Statement.{statement}
 use Rattle.list.proofs.each_pair.Tie as tie
-use Rattle.list.proofs.each_pair.Reads as reads
-use Rattle.list.proofs.each_pair.Lts as lts
-use Rattle.list.proofs.each_right.Reads as each-right-reads
-use Rattle.zone.proofs.read_zone.Reads as read-zone-reads
 
 abbrev Inv-loop : tie.InvT-loop
 Inv-loop words₀ op left n right m target count changed k₀ mark₀ i₀ words k mark i = (i ≤ n) × Going (pairs op (listAt words₀ (left + i * 6) (n - i)) (listAt words₀ right m)) (insert-each (pairs op (listAt words₀ left n) (listAt words₀ right m)) (listAt words₀ target count)) changed (listAt words₀ target count) target words₀ words k mark
@@ -42,12 +38,6 @@ each-right-requires c κs = (
   c .before .before .before .before .before .pre .4,
   sound-there _ _ _ (c .before .before .before .before .before .pre .0) (c .before .before .before .before .loop .inv .1 .frame) (c .before .before .before .before .before .pre .3) (c .before .before .before .loop-test .taken) (c .before .read-zone .ensures),
 )
-
-enum-known-next : tie.Need-enum-known-next Inv-loop μ-loop
-enum-known-next c = search needs
-
-enum-told : tie.Need-enum-told Inv-loop μ-loop
-enum-told c = search needs
 
 same-length : tie.Need-same-length Inv-loop μ-loop
 same-length c = c .before .before .before .each-right .ensures .1 .same-length ∙ c .before .before .before .before .before .before .before .before .loop .inv .1 .frame .same-length
@@ -80,20 +70,4 @@ returns-2 c = (going-end (ap (λ (A : List Zone). pairs (c .before .before .args
 pub each-pair-spec : {M : Type 1} → statement M
 each-pair-spec =
     tie.close
-    (tie.spec
-    Inv-loop
-    μ-loop
-    loop-holds
-    mul-read-zone
-    add-read-zone
-    read-zone-requires
-    each-right-requires
-    enum-known-next
-    enum-told
-    same-length
-    returns
-    add-i
-    loop-less
-    loop-again
-    same-length-2
-    returns-2)
+    (tie.spec Inv-loop μ-loop loop-holds mul-read-zone add-read-zone read-zone-requires each-right-requires (λ c. search needs) (λ c. search needs) same-length returns add-i loop-less loop-again same-length-2 returns-2)

@@ -13,11 +13,6 @@ use mathlib.Core.Path.{_≡_, refl, sym, ap, _∙_}
 use Prim.Native.Nat.{_+_, _-_, _*_, _≤_}
 use Rattle.list.proofs.each_right.Statement.{statement}
 use Rattle.list.proofs.each_right.Tie as tie
-use Rattle.list.proofs.each_right.Reads as reads
-use Rattle.list.proofs.each_right.Lts as lts
-use Rattle.list.proofs.apply.Reads as apply-reads
-use Rattle.list.proofs.grow.Reads as grow-reads
-use Rattle.zone.proofs.read_zone.Reads as read-zone-reads
 
 abbrev Inv-loop : tie.InvT-loop
 Inv-loop words₀ op z right m target count changed n₀ mark₀ j₀ words n mark j = (j ≤ m) × Going (map (apply op z) (listAt words₀ (right + j * 6) (m - j))) (insert-each (map (apply op z) (listAt words₀ right m)) (listAt words₀ target count)) changed (listAt words₀ target count) target words₀ words n mark
@@ -43,12 +38,6 @@ add-j c = omega arith
 apply-requires : tie.Need-apply-requires Inv-loop μ-loop
 apply-requires c κs = (ranged (c .before .before .before .before .pre .3), ranged (sound-there _ _ _ (c .before .before .before .before .pre .0) (c .before .before .before .loop .inv .1 .frame) (c .before .before .before .before .pre .2) (c .before .before .loop-test .taken) (c .read-zone .ensures)))
 
-enum-known-v : tie.Need-enum-known-v Inv-loop μ-loop
-enum-known-v c = search needs
-
-enum-told : tie.Need-enum-told Inv-loop μ-loop
-enum-told c = search needs
-
 loop-less : tie.Need-loop-less Inv-loop μ-loop
 loop-less c = omega arith
 
@@ -60,12 +49,6 @@ grow-requires c κs = (
   still-slot (c .before .before .before .before .before .before .before .before .before .pre .1) (c .before .before .before .before .before .before .before .before .loop .inv .1 .frame) (c .before .before .before .before .before .before .before .before .loop .inv .1 .few),
   ranged (apply-sound (c .before .before .before .before .before .before .before .before .before .args .op) (c .before .before .before .before .before .before .before .before .before .args .z) (c .before .before .before .before .before .read-zone .result) (c .before .before .before .before .before .before .before .before .before .pre .3) (sound-there _ _ _ (c .before .before .before .before .before .before .before .before .before .pre .0) (c .before .before .before .before .before .before .before .before .loop .inv .1 .frame) (c .before .before .before .before .before .before .before .before .before .pre .2) (c .before .before .before .before .before .before .before .loop-test .taken) (c .before .before .before .before .before .read-zone .ensures)) (sym (c .before .before .before .before .apply .ensures) ∙ c .before .before .v .given .1)),
 )
-
-enum-known-k : tie.Need-enum-known-k Inv-loop μ-loop
-enum-known-k c = search needs
-
-enum-told-2 : tie.Need-enum-told-2 Inv-loop μ-loop
-enum-told-2 c = search needs
 
 same-length : tie.Need-same-length Inv-loop μ-loop
 same-length c = c .before .before .before .grow .ensures .1 .same-length ∙ c .before .before .before .before .before .before .before .before .before .before .before .before .loop .inv .1 .frame .same-length
@@ -92,25 +75,4 @@ returns-2 c = (going-end (ap (map (apply (c .before .before .args .op) (c .befor
 pub each-right-spec : {M : Type 1} → statement M
 each-right-spec =
     tie.close
-    (tie.spec
-    Inv-loop
-    μ-loop
-    loop-holds
-    mul-read-zone
-    add-read-zone
-    read-zone-requires
-    add-j
-    apply-requires
-    enum-known-v
-    enum-told
-    loop-less
-    loop-again
-    grow-requires
-    enum-known-k
-    enum-told-2
-    same-length
-    returns
-    loop-less-2
-    loop-again-2
-    same-length-2
-    returns-2)
+    (tie.spec Inv-loop μ-loop loop-holds mul-read-zone add-read-zone read-zone-requires add-j apply-requires (λ c. search needs) (λ c. search needs) loop-less loop-again grow-requires (λ c. search needs) (λ c. search needs) same-length returns loop-less-2 loop-again-2 same-length-2 returns-2)

@@ -12,10 +12,6 @@ use mathlib.Core.Path.{_≡_, refl, sym, ap, _∙_}
 use Prim.Native.Nat.{_+_, _-_, _*_, _≤_}
 use Rattle.list.proofs.each_zone.Statement.{statement}
 use Rattle.list.proofs.each_zone.Tie as tie
-use Rattle.list.proofs.each_zone.Reads as reads
-use Rattle.list.proofs.each_zone.Lts as lts
-use Rattle.list.proofs.grow.Reads as grow-reads
-use Rattle.zone.proofs.read_zone.Reads as read-zone-reads
 
 abbrev Inv-loop : tie.InvT-loop
 Inv-loop words₀ source n target count changed k₀ mark₀ i₀ words k mark i = (i ≤ n) × Going (map zone (listAt words₀ (source + i * 6) (n - i))) (insert-each (map zone (listAt words₀ source n)) (listAt words₀ target count)) changed (listAt words₀ target count) target words₀ words k mark
@@ -37,12 +33,6 @@ read-zone-requires c κs = omega (arith, c .before .before .loop .inv .1 .frame 
 
 grow-requires : tie.Need-grow-requires Inv-loop μ-loop
 grow-requires c κs = (still-slot (c .before .before .before .before .before .pre .1) (c .before .before .before .before .loop .inv .1 .frame) (c .before .before .before .before .loop .inv .1 .few), ranged (sound-there _ _ _ (c .before .before .before .before .before .pre .0) (c .before .before .before .before .loop .inv .1 .frame) (c .before .before .before .before .before .pre .2) (c .before .before .before .loop-test .taken) (c .before .read-zone .ensures)))
-
-enum-known-next : tie.Need-enum-known-next Inv-loop μ-loop
-enum-known-next c = search needs
-
-enum-told : tie.Need-enum-told Inv-loop μ-loop
-enum-told c = search needs
 
 same-length : tie.Need-same-length Inv-loop μ-loop
 same-length c = c .before .before .before .grow .ensures .1 .same-length ∙ c .before .before .before .before .before .before .before .before .loop .inv .1 .frame .same-length
@@ -72,20 +62,4 @@ returns-2 c = (going-end (ap (map zone) (nothing-left _ _ _ _ (c .loop-test .lef
 pub each-zone-spec : {M : Type 1} → statement M
 each-zone-spec =
     tie.close
-    (tie.spec
-    Inv-loop
-    μ-loop
-    loop-holds
-    mul-read-zone
-    add-read-zone
-    read-zone-requires
-    grow-requires
-    enum-known-next
-    enum-told
-    same-length
-    returns
-    add-i
-    loop-less
-    loop-again
-    same-length-2
-    returns-2)
+    (tie.spec Inv-loop μ-loop loop-holds mul-read-zone add-read-zone read-zone-requires grow-requires (λ c. search needs) (λ c. search needs) same-length returns add-i loop-less loop-again same-length-2 returns-2)

@@ -5,28 +5,13 @@ use Rattle.list.specs.Operators.{meets}
 use borrow.Author.Needs.{needs}
 use Rattle.list.proofs.meets.Statement.{statement}
 use Rattle.list.proofs.meets.Tie as tie
-use Rattle.list.proofs.meets.Reads as reads
-use Rattle.list.proofs.meets.Lts as lts
-use Rattle.list.proofs.each_pair.Reads as each-pair-reads
 
 each-pair-requires : tie.Need-each-pair-requires
 each-pair-requires c κs = (c .before .pre .0, c .before .pre .1, record { few = omega arith; room = c .before .pre .2 }, c .before .pre .3, c .before .pre .4)
 
-enum-known-count : tie.Need-enum-known-count
-enum-known-count c = search needs
-
-enum-told : tie.Need-enum-told
-enum-told c = search needs
-
-same-length : tie.Need-same-length
-same-length c = search needs
-
 returns : tie.Need-returns
 unfolding meets listAt
 returns c = (rw (c .enum-told .given .1) at (c .before .before .before .each-pair .ensures .0), c .before .before .before .each-pair .ensures .1)
-
-same-length-2 : tie.Need-same-length-2
-same-length-2 c = search needs
 
 returns-2 : tie.Need-returns-2
 unfolding meets listAt
@@ -35,11 +20,4 @@ returns-2 c = (listing (rw (c .before .count .given .1) at (c .before .before .b
 pub meets-spec : {M : Type 1} → statement M
 meets-spec =
     tie.close
-    (tie.spec
-    each-pair-requires
-    enum-known-count
-    enum-told
-    same-length
-    returns
-    same-length-2
-    returns-2)
+    (tie.spec each-pair-requires (λ c. search needs) (λ c. search needs) (λ c. search needs) returns (λ c. search needs) returns-2)

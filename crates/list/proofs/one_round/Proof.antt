@@ -8,13 +8,6 @@ use mathlib.Core.Path.{_≡_, sym, subst, _∙_}
 use borrow.Author.Needs.{needs}
 use Rattle.list.proofs.one_round.Statement.{statement}
 use Rattle.list.proofs.one_round.Tie as tie
-use Rattle.list.proofs.one_round.Reads as reads
-use Rattle.list.proofs.one_round.Lts as lts
-use Rattle.list.proofs.copy_words.Reads as copy-words-reads
-use Rattle.list.proofs.each_pair.Reads as each-pair-reads
-
-mul-copy-words : tie.Need-mul-copy-words
-mul-copy-words c = search needs
 
 copy-words-requires : tie.Need-copy-words-requires
 copy-words-requires c κs = (omega arith, omega arith, copy-order (c .before .pre .3) (c .before .pre .0 .few))
@@ -24,26 +17,11 @@ each-pair-requires c κs =
     let f = copy-kept (c .before .before .before .before .pre .0 .few) (c .before .before .copy-words .ensures) in
     (still-source _ _ (c .before .before .before .before .pre .0) f (c .before .before .before .before .pre .3), still-source _ _ (c .before .before .before .before .pre .1) f (c .before .before .before .before .pre .4), record { few = c .before .before .before .before .pre .0 .few; room = omega (arith, f .same-length, c .before .before .before .before .pre .2) }, c .before .before .before .before .pre .3, c .before .before .before .before .pre .4)
 
-enum-known-count : tie.Need-enum-known-count
-enum-known-count c = search needs
-
-enum-told : tie.Need-enum-told
-enum-told c = search needs
-
-same-length : tie.Need-same-length
-same-length c = search needs
-
 returns : tie.Need-returns
 returns c = (sym (round-is (c .before .before .before .before .before .before .before .before .pre .0 .few) (c .before .before .before .before .before .before .before .before .pre .1 .few) (c .before .before .before .before .before .before .copy-words .ensures) (c .before .before .before .before .before .before .before .before .pre .3) (c .before .before .before .before .before .before .before .before .pre .4)) ∙ rw (c .enum-told .given .1) at (c .before .before .before .each-pair .ensures .0), kept-trans (copy-kept (c .before .before .before .before .before .before .before .before .pre .0 .few) (c .before .before .before .before .before .before .copy-words .ensures)) (c .before .before .before .each-pair .ensures .1))
 
-same-length-2 : tie.Need-same-length-2
-same-length-2 c = search needs
-
 returns-2 : tie.Need-returns-2
 returns-2 c = (round-changes (c .before .before .before .before .before .before .before .before .before .before .pre .0 .few) (c .before .before .before .before .before .before .before .before .before .before .pre .1 .few) (c .before .before .before .before .before .before .before .before .copy-words .ensures) (c .before .before .before .before .before .before .before .before .before .before .pre .3) (c .before .before .before .before .before .before .before .before .before .before .pre .4) (rw (c .before .before .count .given .1) at (c .before .before .before .before .before .each-pair .ensures .0)) (c .if1 .taken), kept-trans (copy-kept (c .before .before .before .before .before .before .before .before .before .before .pre .0 .few) (c .before .before .before .before .before .before .before .before .copy-words .ensures)) (c .before .before .before .before .before .each-pair .ensures .1))
-
-same-length-3 : tie.Need-same-length-3
-same-length-3 c = search needs
 
 returns-3 : tie.Need-returns-3
 returns-3 c = (round-same (c .before .before .before .before .before .before .before .before .before .before .pre .0 .few) (c .before .before .before .before .before .before .before .before .before .before .pre .1 .few) (c .before .before .before .before .before .before .before .before .copy-words .ensures) (c .before .before .before .before .before .before .before .before .before .before .pre .3) (c .before .before .before .before .before .before .before .before .before .before .pre .4) (rw (c .before .before .count .given .1) at (c .before .before .before .before .before .each-pair .ensures .0)) (c .if1 .left), kept-trans (copy-kept (c .before .before .before .before .before .before .before .before .before .before .pre .0 .few) (c .before .before .before .before .before .before .before .before .copy-words .ensures)) (c .before .before .before .before .before .each-pair .ensures .1))
@@ -51,15 +29,4 @@ returns-3 c = (round-same (c .before .before .before .before .before .before .be
 pub one-round-spec : {M : Type 1} → statement M
 one-round-spec =
     tie.close
-    (tie.spec
-    mul-copy-words
-    copy-words-requires
-    each-pair-requires
-    enum-known-count
-    enum-told
-    same-length
-    returns
-    same-length-2
-    returns-2
-    same-length-3
-    returns-3)
+    (tie.spec (λ c. search needs) copy-words-requires each-pair-requires (λ c. search needs) (λ c. search needs) (λ c. search needs) returns (λ c. search needs) returns-2 (λ c. search needs) returns-3)

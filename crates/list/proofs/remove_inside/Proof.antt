@@ -5,9 +5,6 @@ use native.Mathlib.Omega.{arith}
 use Prim.Native.Nat.{_-_}
 use Rattle.list.proofs.remove_inside.Statement.{statement}
 use Rattle.list.proofs.remove_inside.Tie as tie
-use Rattle.list.proofs.remove_inside.Reads as reads
-use Rattle.list.proofs.remove_inside.Lts as lts
-use Rattle.list.proofs.keep_outside.Reads as keep-outside-reads
 
 abbrev Inv-loop : tie.InvT-loop
 Inv-loop words₀ base count clear w kept₀ i₀ words kept i = Sifting (zoneAt w 0) base count words₀ words kept i

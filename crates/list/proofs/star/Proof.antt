@@ -12,16 +12,6 @@ use mathlib.Core.Path.{_≡_, sym, subst, _∙_}
 use borrow.Author.Needs.{needs}
 use Rattle.list.proofs.star.Statement.{statement}
 use Rattle.list.proofs.star.Tie as tie
-use Rattle.list.proofs.star.Reads as reads
-use Rattle.list.proofs.star.Lts as lts
-use Rattle.list.proofs.all_rounds.Reads as all-rounds-reads
-use Rattle.list.proofs.bring.Reads as bring-reads
-use Rattle.list.proofs.copy_words.Reads as copy-words-reads
-use Rattle.list.proofs.grow.Reads as grow-reads
-use Rattle.zone.proofs.Zone.diagonal.Reads as diagonal-reads
-
-mul-copy-words : tie.Need-mul-copy-words
-mul-copy-words c = search needs
 
 copy-words-requires : tie.Need-copy-words-requires
 copy-words-requires c κs = (omega arith, omega arith, copy-order (c .before .pre .3) (c .before .pre .0 .few))
@@ -38,15 +28,6 @@ all-rounds-requires c κs =
       c .before .before .before .before .pre .5,
       listAt-copied (c .before .before .before .before .args .m) (c .before .before .copy-words .ensures) ∙ sym same,
     )
-
-enum-known-at : tie.Need-enum-known-at
-enum-known-at c = search needs
-
-enum-told : tie.Need-enum-told
-enum-told c = search needs
-
-same-length : tie.Need-same-length
-same-length c = search needs
 
 returns : tie.Need-returns
 returns c =
@@ -76,15 +57,6 @@ grow-requires c κs =
       rw (c .diagonal .ensures) (ranged-more (c .before .before .before .before .before .before .before .before .before .before .before .before .before .before .pre .7) (ranged (proper-diagonal _ _ (c .before .before .before .before .before .before .before .before .before .before .before .before .before .before .pre .6)))),
     )
 
-enum-known-count : tie.Need-enum-known-count
-enum-known-count c = search needs
-
-enum-told-2 : tie.Need-enum-told-2
-enum-told-2 c = search needs
-
-same-length-2 : tie.Need-same-length-2
-same-length-2 c = search needs
-
 returns-2 : tie.Need-returns-2
 returns-2 c =
     let f = copy-kept (c .before .before .before .before .before .before .before .before .before .before .before .before .before .before .before .before .before .before .pre .0 .few) (c .before .before .before .before .before .before .before .before .before .before .before .before .before .before .before .before .copy-words .ensures) in
@@ -94,9 +66,6 @@ returns-2 c =
     let h = brought (w .holds) (c .before .before .before .before .before .before .before .bring .ensures .0) in
     let k = both-trans (kept-one f) (both-trans (c .before .before .before .before .before .before .before .before .before .before .before .before .before .all-rounds .ensures .1) (both-trans (kept-one (c .before .before .before .before .before .before .before .bring .ensures .1)) (kept-one (c .before .before .before .grow .ensures .1)))) in
     (star-no-room (diagonal (c .before .before .before .before .before .before .before .before .before .before .before .before .before .before .before .before .before .before .args .from) (c .before .before .before .before .before .before .before .before .before .before .before .before .before .before .before .before .before .before .args .to)) r _ _ _ h (rw (c .before .before .before .before .diagonal .ensures, c .enum-told2 .given .1) at (c .before .before .before .grow .ensures .0)), k)
-
-same-length-3 : tie.Need-same-length-3
-same-length-3 c = search needs
 
 returns-3 : tie.Need-returns-3
 returns-3 c =
@@ -111,20 +80,4 @@ returns-3 c =
 pub star-spec : {M : Type 1} → statement M
 star-spec =
     tie.close
-    (tie.spec
-    mul-copy-words
-    copy-words-requires
-    all-rounds-requires
-    enum-known-at
-    enum-told
-    same-length
-    returns
-    bring-requires
-    diagonal-requires
-    grow-requires
-    enum-known-count
-    enum-told-2
-    same-length-2
-    returns-2
-    same-length-3
-    returns-3)
+    (tie.spec (λ c. search needs) copy-words-requires all-rounds-requires (λ c. search needs) (λ c. search needs) (λ c. search needs) returns bring-requires diagonal-requires grow-requires (λ c. search needs) (λ c. search needs) (λ c. search needs) returns-2 (λ c. search needs) returns-3)

@@ -6,21 +6,9 @@ use mathlib.Core.Path.{_≡_, sym, subst}
 use borrow.Author.Needs.{needs}
 use Rattle.list.proofs.union.Statement.{statement}
 use Rattle.list.proofs.union.Tie as tie
-use Rattle.list.proofs.union.Reads as reads
-use Rattle.list.proofs.union.Lts as lts
-use Rattle.list.proofs.each_zone.Reads as each-zone-reads
 
 each-zone-requires : tie.Need-each-zone-requires
 each-zone-requires c κs = (c .before .pre .0, record { few = omega arith; room = c .before .pre .2 }, c .before .pre .3)
-
-enum-known-k : tie.Need-enum-known-k
-enum-known-k c = search needs
-
-enum-told : tie.Need-enum-told
-enum-told c = search needs
-
-same-length : tie.Need-same-length
-same-length c = search needs
 
 returns : tie.Need-returns
 unfolding listAt
@@ -32,23 +20,11 @@ each-zone-requires-2 c κs =
     let f = c .before .before .before .before .before .each-zone .ensures .1 in
     (still-source _ _ (c .before .before .before .before .before .before .before .pre .1) f (c .before .before .before .before .before .before .before .pre .4), record { few = g .holds .few; room = omega (arith, f .same-length, c .before .before .before .before .before .before .before .pre .2) }, c .before .before .before .before .before .before .before .pre .4)
 
-enum-known-count : tie.Need-enum-known-count
-enum-known-count c = search needs
-
-enum-told-2 : tie.Need-enum-told-2
-enum-told-2 c = search needs
-
-same-length-2 : tie.Need-same-length-2
-same-length-2 c = search needs
-
 returns-2 : tie.Need-returns-2
 returns-2 c = (
   union-right-over _ _ _ _ _ _ (rw (c .before .before .before .before .before .before .k .given .1) at (c .before .before .before .before .before .before .before .before .before .each-zone .ensures .0)) _ (list-there (c .before .before .before .before .before .before .before .before .before .before .before .args .right) (c .before .before .before .before .before .before .before .before .before .before .before .args .m) (c .before .before .before .before .before .before .before .before .before .each-zone .ensures .1) (c .before .before .before .before .before .before .before .before .before .before .before .pre .4) (c .before .before .before .before .before .before .before .before .before .before .before .pre .1 .few)) (rw (c .enum-told2 .given .1) at (c .before .before .before .each-zone2 .ensures .0)),
   kept-trans (c .before .before .before .before .before .before .before .before .before .each-zone .ensures .1) (c .before .before .before .each-zone2 .ensures .1),
 )
-
-same-length-3 : tie.Need-same-length-3
-same-length-3 c = search needs
 
 returns-3 : tie.Need-returns-3
 returns-3 c = (
@@ -59,16 +35,4 @@ returns-3 c = (
 pub union-spec : {M : Type 1} → statement M
 union-spec =
     tie.close
-    (tie.spec
-    each-zone-requires
-    enum-known-k
-    enum-told
-    same-length
-    returns
-    each-zone-requires-2
-    enum-known-count
-    enum-told-2
-    same-length-2
-    returns-2
-    same-length-3
-    returns-3)
+    (tie.spec each-zone-requires (λ c. search needs) (λ c. search needs) (λ c. search needs) returns each-zone-requires-2 (λ c. search needs) (λ c. search needs) (λ c. search needs) returns-2 (λ c. search needs) returns-3)

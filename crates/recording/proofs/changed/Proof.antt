@@ -7,46 +7,19 @@ use borrow.Author.Needs.{needs}
 use Rattle.recording.proofs.changed.Statement.{statement}
 use Rattle.recording.proofs.changed.Tie as tie
 
-marked-requires : tie.Need-marked-requires
-marked-requires c κs = search needs
-
 returns : tie.Need-returns
 unfolding changed
 returns c = rw (failed (c .before .marked .ensures) (c .if1 .taken))
-
-mul-le32 : tie.Need-mul-le32
-mul-le32 c = search needs
-
-add-le32 : tie.Need-add-le32
-add-le32 c = search needs
-
-le32-requires : tie.Need-le32-requires
-le32-requires c κs = search needs
 
 returns-2 : tie.Need-returns-2
 unfolding changed
 returns-2 c = let bytes = c .before .before .before .before .before .args .bytes .now in
     rw (passed (c .before .before .before .marked .ensures) (c .before .before .if1 .left), le-ltb (time bytes (c .before .before .before .before .before .args .j)) (duration bytes) (omega (arith, c .if2 .taken, c .before .le32 .ensures, c .before .before .before .before .before .pre .1)))
 
-rises-requires : tie.Need-rises-requires
-rises-requires c κs = search needs
-
 returns-3 : tie.Need-returns-3
 unfolding changed
 returns-3 c = let bytes = c .before .before .before .before .before .before .before .args .bytes .now in
     rw (passed (c .before .before .before .before .before .marked .ensures) (c .before .before .before .before .if1 .left), lt-ltb (time bytes (c .before .before .before .before .before .before .before .args .j)) (duration bytes) (omega (arith, c .before .before .if2 .left, c .before .before .before .le32 .ensures, c .before .before .before .before .before .before .before .pre .1)), failed (c .before .rises .ensures) (c .if3 .taken))
-
-mul-le16 : tie.Need-mul-le16
-mul-le16 c = search needs
-
-add-le16 : tie.Need-add-le16
-add-le16 c = search needs
-
-le16-requires : tie.Need-le16-requires
-le16-requires c κs = search needs
-
-shr-result : tie.Need-shr-result
-shr-result c = search needs
 
 returns-4 : tie.Need-returns-4
 unfolding changed
@@ -56,17 +29,4 @@ returns-4 c = let bytes = c .before .before .before .before .before .before .bef
 pub changed-spec : {M : Type 1} → statement M
 changed-spec =
     tie.close
-    (tie.spec
-    marked-requires
-    returns
-    mul-le32
-    add-le32
-    le32-requires
-    returns-2
-    rises-requires
-    returns-3
-    mul-le16
-    add-le16
-    le16-requires
-    shr-result
-    returns-4)
+    (tie.spec (λ c κs. search needs) returns (λ c. search needs) (λ c. search needs) (λ c κs. search needs) returns-2 (λ c κs. search needs) returns-3 (λ c. search needs) (λ c. search needs) (λ c κs. search needs) (λ c. search needs) returns-4)

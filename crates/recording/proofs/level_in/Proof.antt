@@ -11,9 +11,6 @@ returns : tie.Need-returns
 unfolding levelIn
 returns c = rw (div-eq-of-lt (lt-of-lt-of-le (c .before .pre) (pow-mono (c .if1 .taken))))
 
-shr-if2 : tie.Need-shr-if2
-shr-if2 c = search needs
-
 returns-2 : tie.Need-returns-2
 unfolding levelIn
 returns-2 c = rw (eq-eqb _ _ (c .if2 .taken))
@@ -23,4 +20,4 @@ unfolding levelIn
 returns-3 c = rw (ne-eqb _ _ (c .if2 .left))
 
 pub level-in-spec : {M : Type 1} → statement M
-level-in-spec = tie.close (tie.spec returns shr-if2 returns-2 returns-3)
+level-in-spec = tie.close (tie.spec returns (λ c. search needs) returns-2 returns-3)

@@ -13,14 +13,8 @@ use Rattle.recording.proofs.next_run.Tie as tie
 cut : (c : tie.After-earlier) → c .earlier .result ≡ min (c .before .before .args .to) (ticks (c .before .before .args .bytes .now))
 cut c = c .earlier .ensures ∙ ap (min (c .before .before .args .to)) (read-end (c .before .before .pre))
 
-earlier-requires : tie.Need-earlier-requires
-earlier-requires c κs = search needs
-
 seek-requires : tie.Need-seek-requires
 seek-requires c κs = (c .before .before .pre, omega (arith, cut c))
-
-begins-requires : tie.Need-begins-requires
-begins-requires c κs = search needs
 
 returns : tie.Need-returns
 returns c = next-none (c .before .before .before .before .before .pre) (cut (c .before .before .before)) (c .before .before .seek .ensures) (omega (arith, c .if1 .taken, c .before .begins .ensures))
@@ -30,15 +24,6 @@ add-seek c = let h = early (c .before .before .before .before .before .args .byt
 
 seek-requires-2 : tie.Need-seek-requires-2
 seek-requires-2 c κs = (c .before .before .before .before .before .pre, omega (arith, cut (c .before .before .before)))
-
-begins-requires-2 : tie.Need-begins-requires-2
-begins-requires-2 c κs = search needs
-
-later-requires : tie.Need-later-requires
-later-requires c κs = search needs
-
-earlier-requires-2 : tie.Need-earlier-requires-2
-earlier-requires-2 c κs = search needs
 
 returns-2 : tie.Need-returns-2
 returns-2 c =
@@ -50,14 +35,4 @@ returns-2 c =
 pub next-run-spec : {M : Type 1} → statement M
 next-run-spec =
     tie.close
-    (tie.spec
-    earlier-requires
-    seek-requires
-    begins-requires
-    returns
-    add-seek
-    seek-requires-2
-    begins-requires-2
-    later-requires
-    earlier-requires-2
-    returns-2)
+    (tie.spec (λ c κs. search needs) seek-requires (λ c κs. search needs) returns add-seek seek-requires-2 (λ c κs. search needs) (λ c κs. search needs) (λ c κs. search needs) returns-2)

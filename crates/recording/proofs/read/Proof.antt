@@ -7,9 +7,6 @@ use borrow.Author.Needs.{needs}
 use Rattle.recording.proofs.read.Statement.{statement}
 use Rattle.recording.proofs.read.Tie as tie
 
-sized-requires : tie.Need-sized-requires
-sized-requires c κs = search needs
-
 returns : tie.Need-returns
 unfolding reading
 returns c = rw (failed (c .before .sized .ensures) (c .if1 .taken))
@@ -47,15 +44,4 @@ returns-4 c = rw (passed (c .before .before .before .before .before .before .bef
 pub read-spec : {M : Type 1} → statement M
 read-spec =
     tie.close
-    (tie.spec
-    sized-requires
-    returns
-    headed-requires
-    returns-2
-    sub-changes
-    le32-requires
-    shared-slice-read-channels
-    all-changed-requires
-    returns-3
-    tick-requires
-    returns-4)
+    (tie.spec (λ c κs. search needs) returns headed-requires returns-2 sub-changes le32-requires shared-slice-read-channels all-changed-requires returns-3 tick-requires returns-4)

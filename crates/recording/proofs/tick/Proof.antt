@@ -4,12 +4,9 @@ use borrow.Author.Needs.{needs}
 use Rattle.recording.proofs.tick.Statement.{statement}
 use Rattle.recording.proofs.tick.Tie as tie
 
-add-result : tie.Need-add-result
-add-result c = search needs
-
 returns : tie.Need-returns
 unfolding tick
 returns c = search needs
 
 pub tick-spec : {M : Type 1} → statement M
-tick-spec = tie.close (tie.spec add-result returns)
+tick-spec = tie.close (tie.spec (λ c. search needs) returns)

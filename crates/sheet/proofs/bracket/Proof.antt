@@ -2,26 +2,8 @@ use borrow.Author.Needs.{needs}
 use Rattle.sheet.proofs.bracket.Statement.{statement}
 use Rattle.sheet.proofs.bracket.Tie as tie
 
-enum-told : tie.Need-enum-told
-enum-told c = search needs
-
-put-requires : tie.Need-put-requires
-put-requires c κs = search needs
-
-enum-told-2 : tie.Need-enum-told-2
-enum-told-2 c = search needs
-
-put-requires-2 : tie.Need-put-requires-2
-put-requires-2 c κs = search needs
-
-same-length : tie.Need-same-length
-same-length c = search needs
-
 returns : tie.Need-returns
 returns c = rw (c .before .before .before .before .enum-told .given .1) (c .before .before .put .ensures)
-
-same-length-2 : tie.Need-same-length-2
-same-length-2 c = search needs
 
 returns-2 : tie.Need-returns-2
 returns-2 c = rw (c .before .before .before .before .enum-told2 .given .1) (c .before .before .put2 .ensures)
@@ -29,12 +11,4 @@ returns-2 c = rw (c .before .before .before .before .enum-told2 .given .1) (c .b
 pub bracket-spec : {M : Type 1} → statement M
 bracket-spec =
     tie.close
-    (tie.spec
-    enum-told
-    put-requires
-    enum-told-2
-    put-requires-2
-    same-length
-    returns
-    same-length-2
-    returns-2)
+    (tie.spec (λ c. search needs) (λ c κs. search needs) (λ c. search needs) (λ c κs. search needs) (λ c. search needs) returns (λ c. search needs) returns-2)

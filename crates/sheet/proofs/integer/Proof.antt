@@ -7,31 +7,10 @@ use Rattle.sheet.proofs.Buffer.{_then_}
 use Rattle.sheet.proofs.integer.Statement.{statement}
 use Rattle.sheet.proofs.integer.Tie as tie
 
-put-requires : tie.Need-put-requires
-put-requires c κs = search needs
-
-magnitude-requires : tie.Need-magnitude-requires
-magnitude-requires c κs = search needs
-
-decimal-requires : tie.Need-decimal-requires
-decimal-requires c κs = search needs
-
-same-length : tie.Need-same-length
-same-length c = search needs
-
 returns : tie.Need-returns
 returns c = let f = c .before .before .before .before .before .before .before .before .before .before .before .fits .v in
     let e : c .before .before .before .magnitude .result ≡ natAbs (c .before .before .before .before .before .before .before .before .before .before .before .args .v) = c .before .before .before .magnitude .ensures ∙ ap natAbs (back f) in
     rw (integer-below _ (test-back f (c .before .before .before .before .before .before .before .before .before .if1 .taken)), sym e) (c .before .before .before .before .before .before .before .put .ensures then c .before .before .decimal .ensures)
-
-magnitude-requires-2 : tie.Need-magnitude-requires-2
-magnitude-requires-2 c κs = search needs
-
-decimal-requires-2 : tie.Need-decimal-requires-2
-decimal-requires-2 c κs = search needs
-
-same-length-2 : tie.Need-same-length-2
-same-length-2 c = search needs
 
 returns-2 : tie.Need-returns-2
 returns-2 c = let f = c .before .before .before .before .before .before .before .fits .v in
@@ -41,13 +20,4 @@ returns-2 c = let f = c .before .before .before .before .before .before .before 
 pub integer-spec : {M : Type 1} → statement M
 integer-spec =
     tie.close
-    (tie.spec
-    put-requires
-    magnitude-requires
-    decimal-requires
-    same-length
-    returns
-    magnitude-requires-2
-    decimal-requires-2
-    same-length-2
-    returns-2)
+    (tie.spec (λ c κs. search needs) (λ c κs. search needs) (λ c κs. search needs) (λ c. search needs) returns (λ c κs. search needs) (λ c κs. search needs) (λ c. search needs) returns-2)

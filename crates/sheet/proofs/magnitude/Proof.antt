@@ -21,10 +21,7 @@ cast-result-2 c = plain-fits (c .before .fits .v) (test-back (c .before .fits .v
 returns : tie.Need-returns
 returns c = last-is (c .before .fits .v) (test-back (c .before .fits .v) (c .if1 .taken))
 
-returns-2 : tie.Need-returns-2
-returns-2 c = search needs
-
 pub magnitude-spec : {M : Type 1} → statement M
 magnitude-spec =
     tie.close
-    (tie.spec add-result sub-result cast-result add-result-2 cast-result-2 returns returns-2)
+    (tie.spec add-result sub-result cast-result add-result-2 cast-result-2 returns (λ c. search needs))

@@ -5,9 +5,6 @@ use Rattle.sheet.proofs.Signed.{difference-fits, read-small, negative-i
 use Rattle.sheet.proofs.negated.Statement.{statement}
 use Rattle.sheet.proofs.negated.Tie as tie
 
-number-requires : tie.Need-number-requires
-number-requires c κs = search needs
-
 sub-result : tie.Need-sub-result
 sub-result c =
     let h = read-small {r = c .number .result} (search needs) (c .number .ensures .1) in
@@ -17,4 +14,4 @@ returns : tie.Need-returns
 returns c = negative-is {r = c .number .result} (search needs) (c .number .ensures .1) ∙ ap negℤ (c .number .ensures .0)
 
 pub negated-spec : {M : Type 1} → statement M
-negated-spec = tie.close (tie.spec number-requires sub-result returns)
+negated-spec = tie.close (tie.spec (λ c κs. search needs) sub-result returns)

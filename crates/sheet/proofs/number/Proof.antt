@@ -4,14 +4,8 @@ use Rattle.sheet.proofs.Signed.{wide-fits, wide-is}
 use Rattle.sheet.proofs.number.Statement.{statement}
 use Rattle.sheet.proofs.number.Tie as tie
 
-enum-known-l : tie.Need-enum-known-l
-enum-known-l c = search needs
-
 cast-result : tie.Need-cast-result
 cast-result c = wide-fits {v = c .before .l .given .0 .0} (search needs)
-
-enum-known-l-2 : tie.Need-enum-known-l-2
-enum-known-l-2 c = search needs
 
 cast-result-2 : tie.Need-cast-result-2
 cast-result-2 c = wide-fits {v = c .before .l2 .given .0 .0} (search needs)
@@ -24,4 +18,4 @@ returns-2 c = rw (c .before .l2 .given .1, wide-is {v = c .before .l2 .given .0 
 
 pub number-spec : {M : Type 1} → statement M
 number-spec =
-    tie.close (tie.spec enum-known-l cast-result enum-known-l-2 cast-result-2 returns returns-2)
+    tie.close (tie.spec (λ c. search needs) cast-result (λ c. search needs) cast-result-2 returns returns-2)

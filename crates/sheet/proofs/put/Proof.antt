@@ -6,20 +6,8 @@ use Rattle.sheet.proofs.Buffer.{put-in, put-full, put-none}
 use Rattle.sheet.proofs.put.Statement.{statement}
 use Rattle.sheet.proofs.put.Tie as tie
 
-enum-known-w : tie.Need-enum-known-w
-enum-known-w c = search needs
-
 returns : tie.Need-returns
 returns c = put-none _ (λ at e. miss (1 ∷ 2 ∷ []) 0 tt (rw e at (c .match .keys2)))
-
-slice-write-out : tie.Need-slice-write-out
-slice-write-out c = search needs
-
-add-t8 : tie.Need-add-t8
-add-t8 c = search needs
-
-same-length : tie.Need-same-length
-same-length c = search needs
 
 returns-2 : tie.Need-returns-2
 returns-2 c = rw (c .before .before .w .given .1) (put-in _ _ (c .if1 .taken))
@@ -30,4 +18,4 @@ returns-3 c = rw (c .before .before .w .given .1) (put-full _ _ (c .if1 .left))
 pub put-spec : {M : Type 1} → statement M
 put-spec =
     tie.close
-    (tie.spec enum-known-w returns slice-write-out add-t8 same-length returns-2 returns-3)
+    (tie.spec (λ c. search needs) returns (λ c. search needs) (λ c. search needs) (λ c. search needs) returns-2 returns-3)

@@ -7,30 +7,6 @@ use Rattle.sheet.proofs.Buffer.{_then_}
 use Rattle.sheet.proofs.range.Statement.{statement}
 use Rattle.sheet.proofs.range.Tie as tie
 
-bracket-requires : tie.Need-bracket-requires
-bracket-requires c κs = search needs
-
-negated-requires : tie.Need-negated-requires
-negated-requires c κs = search needs
-
-integer-requires : tie.Need-integer-requires
-integer-requires c κs = search needs
-
-put-requires : tie.Need-put-requires
-put-requires c κs = search needs
-
-number-requires : tie.Need-number-requires
-number-requires c κs = search needs
-
-integer-requires-2 : tie.Need-integer-requires-2
-integer-requires-2 c κs = search needs
-
-bracket-requires-2 : tie.Need-bracket-requires-2
-bracket-requires-2 c κs = search needs
-
-same-length : tie.Need-same-length
-same-length c = search needs
-
 returns : tie.Need-returns
 unfolding range
 returns c = rw (sym (back {z = c .before .before .before .before .before .before .before .before .before .before .before .before .before .before .before .before .negated .result} (search needs) ∙ c .before .before .before .before .before .before .before .before .before .before .before .before .before .before .before .before .negated .ensures), sym (back {z = c .before .before .before .before .before .before .before .number .result} (search needs) ∙ c .before .before .before .before .before .before .before .number .ensures .0))
@@ -39,13 +15,4 @@ returns c = rw (sym (back {z = c .before .before .before .before .before .before
 pub range-spec : {M : Type 1} → statement M
 range-spec =
     tie.close
-    (tie.spec
-    bracket-requires
-    negated-requires
-    integer-requires
-    put-requires
-    number-requires
-    integer-requires-2
-    bracket-requires-2
-    same-length
-    returns)
+    (tie.spec (λ c κs. search needs) (λ c κs. search needs) (λ c κs. search needs) (λ c κs. search needs) (λ c κs. search needs) (λ c κs. search needs) (λ c κs. search needs) (λ c. search needs) returns)

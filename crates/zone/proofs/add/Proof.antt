@@ -5,8 +5,6 @@ use Rattle.signed.proofs.Machine.{fits-by, op-fits, op-is}
 use Rattle.signed.proofs.Integers.{arithZ, sum, size}
 use Rattle.zone.proofs.add.Statement.{statement}
 use Rattle.zone.proofs.add.Tie as tie
-use Rattle.zone.proofs.add.Reads as reads
-use Rattle.zone.proofs.add.Lts as lts
 
 fits : (c : tie.Start) → SFits w32 (c .args .a +ℤ c .args .b)
 fits c = fits-by (omega (arithZ, sum (c .args .a) (c .args .b), size (c .args .a), size (c .args .b), size (c .args .a +ℤ c .args .b), c .pre .0, c .pre .1))

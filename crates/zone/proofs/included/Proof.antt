@@ -8,12 +8,6 @@ use mathlib.Core.Path.{_≡_, sym, _∙_}
 use borrow.Author.Needs.{needs}
 use Rattle.zone.proofs.included.Statement.{statement}
 use Rattle.zone.proofs.included.Tie as tie
-use Rattle.zone.proofs.included.Reads as reads
-use Rattle.zone.proofs.included.Lts as lts
-use Rattle.zone.proofs.word_at_most.Reads as word-at-most-reads
-
-word-at-most-requires : tie.Need-word-at-most-requires
-word-at-most-requires c κs = search needs
 
 returns : tie.Need-returns
 unfolding zoneAt
@@ -23,15 +17,6 @@ returns c =
     let v : false ≡ contains z w = fails-before (at-most (w .nlength) (z .nlength)) (fails-before (at-most (w .length) (z .length)) (fails-before (at-most (w .nend) (z .nend)) (fails-before (at-most (w .end) (z .end)) (fails-before (at-most (w .nstart) (z .nstart)) (sym (sym (c .before .word-at-most .ensures) ∙ is-false (c .if1 .taken))))))) in
     (v, contains-means z w v)
 
-add-word-at-most : tie.Need-add-word-at-most
-add-word-at-most c = search needs
-
-add-word-at-most-2 : tie.Need-add-word-at-most-2
-add-word-at-most-2 c = search needs
-
-word-at-most-requires-2 : tie.Need-word-at-most-requires-2
-word-at-most-requires-2 c κs = search needs
-
 returns-2 : tie.Need-returns-2
 unfolding zoneAt
 returns-2 c =
@@ -39,15 +24,6 @@ returns-2 c =
     let w = zoneAt (c .before .before .before .before .args .inner .now) (c .before .before .before .before .args .i) in
     let v : false ≡ contains z w = fails-before (at-most (w .nlength) (z .nlength)) (fails-before (at-most (w .length) (z .length)) (fails-before (at-most (w .nend) (z .nend)) (fails-before (at-most (w .end) (z .end)) (fails-here (at-most (w .start) (z .start)) (sym (c .before .word-at-most2 .ensures) ∙ is-false (c .if2 .taken)))))) in
     (v, contains-means z w v)
-
-add-word-at-most-3 : tie.Need-add-word-at-most-3
-add-word-at-most-3 c = search needs
-
-add-word-at-most-4 : tie.Need-add-word-at-most-4
-add-word-at-most-4 c = search needs
-
-word-at-most-requires-3 : tie.Need-word-at-most-requires-3
-word-at-most-requires-3 c κs = search needs
 
 returns-3 : tie.Need-returns-3
 unfolding zoneAt
@@ -57,15 +33,6 @@ returns-3 c =
     let v : false ≡ contains z w = fails-before (at-most (w .nlength) (z .nlength)) (fails-before (at-most (w .length) (z .length)) (fails-before (at-most (w .nend) (z .nend)) (fails-here (at-most (w .start) (z .start) && at-most (w .nstart) (z .nstart)) (sym (c .before .word-at-most3 .ensures) ∙ is-false (c .if3 .taken))))) in
     (v, contains-means z w v)
 
-add-word-at-most-5 : tie.Need-add-word-at-most-5
-add-word-at-most-5 c = search needs
-
-add-word-at-most-6 : tie.Need-add-word-at-most-6
-add-word-at-most-6 c = search needs
-
-word-at-most-requires-4 : tie.Need-word-at-most-requires-4
-word-at-most-requires-4 c κs = search needs
-
 returns-4 : tie.Need-returns-4
 unfolding zoneAt
 returns-4 c =
@@ -74,15 +41,6 @@ returns-4 c =
     let v : false ≡ contains z w = fails-before (at-most (w .nlength) (z .nlength)) (fails-before (at-most (w .length) (z .length)) (fails-here (at-most (w .start) (z .start) && at-most (w .nstart) (z .nstart) && at-most (w .end) (z .end)) (sym (c .before .word-at-most4 .ensures) ∙ is-false (c .if4 .taken)))) in
     (v, contains-means z w v)
 
-add-word-at-most-7 : tie.Need-add-word-at-most-7
-add-word-at-most-7 c = search needs
-
-add-word-at-most-8 : tie.Need-add-word-at-most-8
-add-word-at-most-8 c = search needs
-
-word-at-most-requires-5 : tie.Need-word-at-most-requires-5
-word-at-most-requires-5 c κs = search needs
-
 returns-5 : tie.Need-returns-5
 unfolding zoneAt
 returns-5 c =
@@ -90,15 +48,6 @@ returns-5 c =
     let w = zoneAt (c .before .before .before .before .before .before .before .before .before .before .args .inner .now) (c .before .before .before .before .before .before .before .before .before .before .args .i) in
     let v : false ≡ contains z w = fails-before (at-most (w .nlength) (z .nlength)) (fails-here (at-most (w .start) (z .start) && at-most (w .nstart) (z .nstart) && at-most (w .end) (z .end) && at-most (w .nend) (z .nend)) (sym (c .before .word-at-most5 .ensures) ∙ is-false (c .if5 .taken))) in
     (v, contains-means z w v)
-
-add-word-at-most-9 : tie.Need-add-word-at-most-9
-add-word-at-most-9 c = search needs
-
-add-word-at-most-10 : tie.Need-add-word-at-most-10
-add-word-at-most-10 c = search needs
-
-word-at-most-requires-6 : tie.Need-word-at-most-requires-6
-word-at-most-requires-6 c κs = search needs
 
 returns-6 : tie.Need-returns-6
 unfolding zoneAt
@@ -111,26 +60,4 @@ returns-6 c =
 pub included-spec : {M : Type 1} → statement M
 included-spec =
     tie.close
-    (tie.spec
-    word-at-most-requires
-    returns
-    add-word-at-most
-    add-word-at-most-2
-    word-at-most-requires-2
-    returns-2
-    add-word-at-most-3
-    add-word-at-most-4
-    word-at-most-requires-3
-    returns-3
-    add-word-at-most-5
-    add-word-at-most-6
-    word-at-most-requires-4
-    returns-4
-    add-word-at-most-7
-    add-word-at-most-8
-    word-at-most-requires-5
-    returns-5
-    add-word-at-most-9
-    add-word-at-most-10
-    word-at-most-requires-6
-    returns-6)
+    (tie.spec (λ c κs. search needs) returns (λ c. search needs) (λ c. search needs) (λ c κs. search needs) returns-2 (λ c. search needs) (λ c. search needs) (λ c κs. search needs) returns-3 (λ c. search needs) (λ c. search needs) (λ c κs. search needs) returns-4 (λ c. search needs) (λ c. search needs) (λ c κs. search needs) returns-5 (λ c. search needs) (λ c. search needs) (λ c κs. search needs) returns-6)

@@ -3,9 +3,6 @@ use Rattle.zone.proofs.Signed.{negated-fits, negated-is}
 use Rattle.zone.proofs.negative.Statement.{statement}
 use Rattle.zone.proofs.negative.Tie as tie
 
-positive-requires : tie.Need-positive-requires
-positive-requires c κs = search needs
-
 sub-result : tie.Need-sub-result
 sub-result c = negated-fits (c .before .pre) (search needs) (c .positive .ensures)
 
@@ -13,4 +10,4 @@ returns : tie.Need-returns
 returns c = negated-is (c .before .pre) (search needs) (c .positive .ensures)
 
 pub negative-spec : {M : Type 1} → statement M
-negative-spec = tie.close (tie.spec positive-requires sub-result returns)
+negative-spec = tie.close (tie.spec (λ c κs. search needs) sub-result returns)

@@ -6,14 +6,9 @@ use lib.IntN.{ℤ}
 use borrow.Author.Needs.{needs}
 use Rattle.zone.proofs.positive.Statement.{statement}
 use Rattle.zone.proofs.positive.Tie as tie
-use Rattle.zone.proofs.positive.Reads as reads
-use Rattle.zone.proofs.positive.Lts as lts
-
-cast-result : tie.Need-cast-result
-cast-result c = search needs
 
 returns : tie.Need-returns
 returns c = toZ-pos w32 _ (omega arith)
 
 pub positive-spec : {M : Type 1} → statement M
-positive-spec = tie.close (tie.spec cast-result returns)
+positive-spec = tie.close (tie.spec (λ c. search needs) returns)

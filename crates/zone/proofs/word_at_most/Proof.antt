@@ -5,20 +5,6 @@ use mathlib.Core.Path.{sym}
 use borrow.Author.Needs.{needs}
 use Rattle.zone.proofs.word_at_most.Statement.{statement}
 use Rattle.zone.proofs.word_at_most.Tie as tie
-use Rattle.zone.proofs.word_at_most.Reads as reads
-use Rattle.zone.proofs.word_at_most.Lts as lts
-
-mul-result : tie.Need-mul-result
-mul-result c = search needs
-
-shared-slice-copy-out-result : tie.Need-shared-slice-copy-out-result
-shared-slice-copy-out-result c = search needs
-
-mul-result-2 : tie.Need-mul-result-2
-mul-result-2 c = search needs
-
-shared-slice-copy-out-result-2 : tie.Need-shared-slice-copy-out-result-2
-shared-slice-copy-out-result-2 c = search needs
 
 returns : tie.Need-returns
 returns c =
@@ -29,9 +15,4 @@ returns c =
 pub word-at-most-spec : {M : Type 1} → statement M
 word-at-most-spec =
     tie.close
-    (tie.spec
-    mul-result
-    shared-slice-copy-out-result
-    mul-result-2
-    shared-slice-copy-out-result-2
-    returns)
+    (tie.spec (λ c. search needs) (λ c. search needs) (λ c. search needs) (λ c. search needs) returns)

@@ -1,8 +1,6 @@
 use Rattle.zone.proofs.Signed.{whole-fits, decode-odd, decode-even}
 use Rattle.zone.proofs.Limit.of_word.Statement.{statement}
 use Rattle.zone.proofs.Limit.of_word.Tie as tie
-use Rattle.zone.proofs.Limit.of_word.Reads as reads
-use Rattle.zone.proofs.Limit.of_word.Lts as lts
 
 mul-if1 : tie.Need-mul-if1
 mul-if1 c = whole-fits (c .fits .w)

@@ -3,36 +3,15 @@ use Rattle.zone.specs.Limit.{_⊕_}
 use borrow.Author.Needs.{needs}
 use Rattle.zone.proofs.Limit.plus.Statement.{statement}
 use Rattle.zone.proofs.Limit.plus.Tie as tie
-use Rattle.zone.proofs.Limit.plus.Reads as reads
-use Rattle.zone.proofs.Limit.plus.Lts as lts
-use Rattle.zone.proofs.add.Reads as add-reads
-
-enum-known-self : tie.Need-enum-known-self
-enum-known-self c = search needs
-
-enum-known-other : tie.Need-enum-known-other
-enum-known-other c = search needs
 
 add-requires : tie.Need-add-requires
 add-requires c κs = let p = rw (c .before .before .before .before .self .given .1) at (c .before .before .before .before .before .before .pre .0) in let q = rw (c .before .other .given .1) at (c .before .before .before .before .before .before .pre .1) in search needs
 
-enum-known-other-2 : tie.Need-enum-known-other-2
-enum-known-other-2 c = search needs
-
 add-requires-2 : tie.Need-add-requires-2
 add-requires-2 c κs = let p = rw (c .before .before .before .before .self .given .1) at (c .before .before .before .before .before .before .pre .0) in let q = rw (c .before .other2 .given .1) at (c .before .before .before .before .before .before .pre .1) in search needs
 
-enum-known-self-2 : tie.Need-enum-known-self-2
-enum-known-self-2 c = search needs
-
-enum-known-other-3 : tie.Need-enum-known-other-3
-enum-known-other-3 c = search needs
-
 add-requires-3 : tie.Need-add-requires-3
 add-requires-3 c κs = let p = rw (c .before .before .before .before .self2 .given .1) at (c .before .before .before .before .before .before .pre .0) in let q = rw (c .before .other3 .given .1) at (c .before .before .before .before .before .before .pre .1) in search needs
-
-enum-known-other-4 : tie.Need-enum-known-other-4
-enum-known-other-4 c = search needs
 
 add-requires-4 : tie.Need-add-requires-4
 add-requires-4 c κs = let p = rw (c .before .before .before .before .self2 .given .1) at (c .before .before .before .before .before .before .pre .0) in let q = rw (c .before .other4 .given .1) at (c .before .before .before .before .before .before .pre .1) in search needs
@@ -56,18 +35,4 @@ returns-4 c = rw (c .before .before .before .before .before .self2 .given .1, c 
 pub plus-spec : {M : Type 1} → statement M
 plus-spec =
     tie.close
-    (tie.spec
-    enum-known-self
-    enum-known-other
-    add-requires
-    enum-known-other-2
-    add-requires-2
-    enum-known-self-2
-    enum-known-other-3
-    add-requires-3
-    enum-known-other-4
-    add-requires-4
-    returns
-    returns-2
-    returns-3
-    returns-4)
+    (tie.spec (λ c. search needs) (λ c. search needs) add-requires (λ c. search needs) add-requires-2 (λ c. search needs) (λ c. search needs) add-requires-3 (λ c. search needs) add-requires-4 returns returns-2 returns-3 returns-4)

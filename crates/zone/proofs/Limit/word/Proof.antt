@@ -2,20 +2,12 @@ use Rattle.zone.proofs.Signed.{twice-fits, twice-is, more-fits, more-is
 use borrow.Author.Needs.{needs}
 use Rattle.zone.proofs.Limit.word.Statement.{statement}
 use Rattle.zone.proofs.Limit.word.Tie as tie
-use Rattle.zone.proofs.Limit.word.Reads as reads
-use Rattle.zone.proofs.Limit.word.Lts as lts
-
-enum-known-self : tie.Need-enum-known-self
-enum-known-self c = search needs
 
 mul-result : tie.Need-mul-result
 mul-result c = twice-fits {v = c .before .self .given .0 .0} (search needs) (rw (c .before .self .given .1) at (c .before .before .before .pre))
 
 add-result : tie.Need-add-result
 add-result c = more-fits {v = c .before .self .given .0 .0} (search needs) (rw (c .before .self .given .1) at (c .before .before .before .pre))
-
-enum-known-self-2 : tie.Need-enum-known-self-2
-enum-known-self-2 c = search needs
 
 mul-result-2 : tie.Need-mul-result-2
 mul-result-2 c = twice-fits {v = c .before .self2 .given .0 .0} (search needs) (rw (c .before .self2 .given .1) at (c .before .before .before .pre))
@@ -29,11 +21,4 @@ returns-2 c = rw (c .before .self2 .given .1) (twice-is {v = c .before .self2 .g
 pub word-spec : {M : Type 1} → statement M
 word-spec =
     tie.close
-    (tie.spec
-    enum-known-self
-    mul-result
-    add-result
-    enum-known-self-2
-    mul-result-2
-    returns
-    returns-2)
+    (tie.spec (λ c. search needs) mul-result add-result (λ c. search needs) mul-result-2 returns returns-2)

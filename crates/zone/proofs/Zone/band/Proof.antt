@@ -5,17 +5,6 @@ use mathlib.Core.Path.{ap, _∙_}
 use borrow.Author.Needs.{needs}
 use Rattle.zone.proofs.Zone.band.Statement.{statement}
 use Rattle.zone.proofs.Zone.band.Tie as tie
-use Rattle.zone.proofs.Zone.band.Reads as reads
-use Rattle.zone.proofs.Zone.band.Lts as lts
-use Rattle.zone.proofs.Zone.everything.Reads as everything-reads
-use Rattle.zone.proofs.Zone.limited.Reads as limited-reads
-use Rattle.zone.proofs.Zone.tighten.Reads as tighten-reads
-
-everything-requires : tie.Need-everything-requires
-everything-requires c κs = search needs
-
-limited-requires : tie.Need-limited-requires
-limited-requires c κs = search needs
 
 tighten-requires : tie.Need-tighten-requires
 tighten-requires c κs = rw (c .limited .ensures, c .before .everything .ensures) (ranged-limited _ _ _ (ranged-everything _ _ (c .before .before .pre .0) (c .before .before .pre .1)) (c .before .before .pre .2) (c .before .before .pre .3))
@@ -25,4 +14,4 @@ unfolding band
 returns c = c .tighten .ensures .0 ∙ ap tighten (c .before .limited .ensures ∙ ap (λ (z : Zone). limited z (c .before .before .before .args .longest) (c .before .before .before .args .shortest)) (c .before .before .everything .ensures))
 
 pub band-spec : {M : Type 1} → statement M
-band-spec = tie.close (tie.spec everything-requires limited-requires tighten-requires returns)
+band-spec = tie.close (tie.spec (λ c κs. search needs) (λ c κs. search needs) tighten-requires returns)

@@ -5,13 +5,6 @@ use Rattle.zone.proofs.Means.{compose-means}
 use borrow.Author.Needs.{needs}
 use Rattle.zone.proofs.Zone.compose.Statement.{statement}
 use Rattle.zone.proofs.Zone.compose.Tie as tie
-use Rattle.zone.proofs.Zone.compose.Reads as reads
-use Rattle.zone.proofs.Zone.compose.Lts as lts
-use Rattle.zone.proofs.Limit.leaves_room.Reads as leaves-room-reads
-use Rattle.zone.proofs.Zone.joined.Reads as joined-reads
-
-leaves-room-requires : tie.Need-leaves-room-requires
-leaves-room-requires c κs = search needs
 
 returns : tie.Need-returns
 unfolding compose
@@ -21,9 +14,6 @@ returns c =
     let v : empty ≡ compose z w = no-room _ _ (where-room (z .nend) (w .start) (zone (joined z w))) (c .before .leaves-room .ensures) (c .if1 .taken) in
     (v, compose-means z w v)
 
-leaves-room-requires-2 : tie.Need-leaves-room-requires-2
-leaves-room-requires-2 c κs = search needs
-
 returns-2 : tie.Need-returns-2
 unfolding compose
 returns-2 c =
@@ -31,9 +21,6 @@ returns-2 c =
     let w = c .before .before .before .before .args .other in
     let v : empty ≡ compose z w = no-room _ _ (zone (joined z w)) (c .before .leaves-room2 .ensures) (c .if2 .taken) ∙ has-room _ _ (where-room (z .nend) (w .start) (zone (joined z w))) (c .before .before .before .leaves-room .ensures) (c .before .before .if1 .left) in
     (v, compose-means z w v)
-
-joined-requires : tie.Need-joined-requires
-joined-requires c κs = search needs
 
 returns-3 : tie.Need-returns-3
 unfolding compose
@@ -46,10 +33,4 @@ returns-3 c =
 pub compose-spec : {M : Type 1} → statement M
 compose-spec =
     tie.close
-    (tie.spec
-    leaves-room-requires
-    returns
-    leaves-room-requires-2
-    returns-2
-    joined-requires
-    returns-3)
+    (tie.spec (λ c κs. search needs) returns (λ c κs. search needs) returns-2 (λ c κs. search needs) returns-3)

@@ -7,12 +7,6 @@ use mathlib.Core.Path.{_≡_, sym, _∙_}
 use borrow.Author.Needs.{needs}
 use Rattle.zone.proofs.Zone.contains.Statement.{statement}
 use Rattle.zone.proofs.Zone.contains.Tie as tie
-use Rattle.zone.proofs.Zone.contains.Reads as reads
-use Rattle.zone.proofs.Zone.contains.Lts as lts
-use Rattle.zone.proofs.Limit.at_most.Reads as at-most-reads
-
-at-most-requires : tie.Need-at-most-requires
-at-most-requires c κs = search needs
 
 returns : tie.Need-returns
 returns c =
@@ -21,18 +15,12 @@ returns c =
     let v : false ≡ contains z w = fails-before (at-most (w .nlength) (z .nlength)) (fails-before (at-most (w .length) (z .length)) (fails-before (at-most (w .nend) (z .nend)) (fails-before (at-most (w .end) (z .end)) (fails-before (at-most (w .nstart) (z .nstart)) (sym (sym (c .before .at-most .ensures) ∙ is-false (c .if1 .taken))))))) in
     (v, contains-means z w v)
 
-at-most-requires-2 : tie.Need-at-most-requires-2
-at-most-requires-2 c κs = search needs
-
 returns-2 : tie.Need-returns-2
 returns-2 c =
     let z = c .before .before .before .before .args .self in
     let w = c .before .before .before .before .args .other in
     let v : false ≡ contains z w = fails-before (at-most (w .nlength) (z .nlength)) (fails-before (at-most (w .length) (z .length)) (fails-before (at-most (w .nend) (z .nend)) (fails-before (at-most (w .end) (z .end)) (fails-here (at-most (w .start) (z .start)) (sym (c .before .at-most2 .ensures) ∙ is-false (c .if2 .taken)))))) in
     (v, contains-means z w v)
-
-at-most-requires-3 : tie.Need-at-most-requires-3
-at-most-requires-3 c κs = search needs
 
 returns-3 : tie.Need-returns-3
 returns-3 c =
@@ -41,9 +29,6 @@ returns-3 c =
     let v : false ≡ contains z w = fails-before (at-most (w .nlength) (z .nlength)) (fails-before (at-most (w .length) (z .length)) (fails-before (at-most (w .nend) (z .nend)) (fails-here (at-most (w .start) (z .start) && at-most (w .nstart) (z .nstart)) (sym (c .before .at-most3 .ensures) ∙ is-false (c .if3 .taken))))) in
     (v, contains-means z w v)
 
-at-most-requires-4 : tie.Need-at-most-requires-4
-at-most-requires-4 c κs = search needs
-
 returns-4 : tie.Need-returns-4
 returns-4 c =
     let z = c .before .before .before .before .before .before .before .before .args .self in
@@ -51,18 +36,12 @@ returns-4 c =
     let v : false ≡ contains z w = fails-before (at-most (w .nlength) (z .nlength)) (fails-before (at-most (w .length) (z .length)) (fails-here (at-most (w .start) (z .start) && at-most (w .nstart) (z .nstart) && at-most (w .end) (z .end)) (sym (c .before .at-most4 .ensures) ∙ is-false (c .if4 .taken)))) in
     (v, contains-means z w v)
 
-at-most-requires-5 : tie.Need-at-most-requires-5
-at-most-requires-5 c κs = search needs
-
 returns-5 : tie.Need-returns-5
 returns-5 c =
     let z = c .before .before .before .before .before .before .before .before .before .before .args .self in
     let w = c .before .before .before .before .before .before .before .before .before .before .args .other in
     let v : false ≡ contains z w = fails-before (at-most (w .nlength) (z .nlength)) (fails-here (at-most (w .start) (z .start) && at-most (w .nstart) (z .nstart) && at-most (w .end) (z .end) && at-most (w .nend) (z .nend)) (sym (c .before .at-most5 .ensures) ∙ is-false (c .if5 .taken))) in
     (v, contains-means z w v)
-
-at-most-requires-6 : tie.Need-at-most-requires-6
-at-most-requires-6 c κs = search needs
 
 returns-6 : tie.Need-returns-6
 returns-6 c =
@@ -74,16 +53,4 @@ returns-6 c =
 pub contains-spec : {M : Type 1} → statement M
 contains-spec =
     tie.close
-    (tie.spec
-    at-most-requires
-    returns
-    at-most-requires-2
-    returns-2
-    at-most-requires-3
-    returns-3
-    at-most-requires-4
-    returns-4
-    at-most-requires-5
-    returns-5
-    at-most-requires-6
-    returns-6)
+    (tie.spec (λ c κs. search needs) returns (λ c κs. search needs) returns-2 (λ c κs. search needs) returns-3 (λ c κs. search needs) returns-4 (λ c κs. search needs) returns-5 (λ c κs. search needs) returns-6)

@@ -7,16 +7,6 @@ use lib.IntN.{pos}
 use borrow.Author.Needs.{needs}
 use Rattle.zone.proofs.Zone.diagonal.Statement.{statement}
 use Rattle.zone.proofs.Zone.diagonal.Tie as tie
-use Rattle.zone.proofs.Zone.diagonal.Reads as reads
-use Rattle.zone.proofs.Zone.diagonal.Lts as lts
-use Rattle.zone.proofs.negative.Reads as negative-reads
-use Rattle.zone.proofs.positive.Reads as positive-reads
-
-positive-requires : tie.Need-positive-requires
-positive-requires c κs = search needs
-
-negative-requires : tie.Need-negative-requires
-negative-requires c κs = search needs
 
 returns : tie.Need-returns
 unfolding diagonal
@@ -26,4 +16,4 @@ returns c =
     λ i. record { start = AtMost (last i); nstart = AtMost (first i); end = AtMost (last i); nend = AtMost (first i); length = AtMost (pos 0); nlength = AtMost (pos 0) }
 
 pub diagonal-spec : {M : Type 1} → statement M
-diagonal-spec = tie.close (tie.spec positive-requires negative-requires returns)
+diagonal-spec = tie.close (tie.spec (λ c κs. search needs) (λ c κs. search needs) returns)

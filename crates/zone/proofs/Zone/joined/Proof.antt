@@ -4,34 +4,6 @@ use mathlib.Core.Path.{ap, _∙_}
 use borrow.Author.Needs.{needs}
 use Rattle.zone.proofs.Zone.joined.Statement.{statement}
 use Rattle.zone.proofs.Zone.joined.Tie as tie
-use Rattle.zone.proofs.Zone.joined.Reads as reads
-use Rattle.zone.proofs.Zone.joined.Lts as lts
-use Rattle.zone.proofs.Limit.or_sum.Reads as or-sum-reads
-use Rattle.zone.proofs.Limit.plus.Reads as plus-reads
-
-or-sum-requires : tie.Need-or-sum-requires
-or-sum-requires c κs = search needs
-
-or-sum-requires-2 : tie.Need-or-sum-requires-2
-or-sum-requires-2 c κs = search needs
-
-or-sum-requires-3 : tie.Need-or-sum-requires-3
-or-sum-requires-3 c κs = search needs
-
-or-sum-requires-4 : tie.Need-or-sum-requires-4
-or-sum-requires-4 c κs = search needs
-
-plus-requires : tie.Need-plus-requires
-plus-requires c κs = search needs
-
-or-sum-requires-5 : tie.Need-or-sum-requires-5
-or-sum-requires-5 c κs = search needs
-
-plus-requires-2 : tie.Need-plus-requires-2
-plus-requires-2 c κs = search needs
-
-or-sum-requires-6 : tie.Need-or-sum-requires-6
-or-sum-requires-6 c κs = search needs
 
 returns : tie.Need-returns
 unfolding joined
@@ -43,13 +15,4 @@ returns c =
 pub joined-spec : {M : Type 1} → statement M
 joined-spec =
     tie.close
-    (tie.spec
-    or-sum-requires
-    or-sum-requires-2
-    or-sum-requires-3
-    or-sum-requires-4
-    plus-requires
-    or-sum-requires-5
-    plus-requires-2
-    or-sum-requires-6
-    returns)
+    (tie.spec (λ c κs. search needs) (λ c κs. search needs) (λ c κs. search needs) (λ c κs. search needs) (λ c κs. search needs) (λ c κs. search needs) (λ c κs. search needs) (λ c κs. search needs) returns)

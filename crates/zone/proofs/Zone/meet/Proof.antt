@@ -7,14 +7,6 @@ use mathlib.Core.Path.{_≡_, ap, _∙_}
 use borrow.Author.Needs.{needs}
 use Rattle.zone.proofs.Zone.meet.Statement.{statement}
 use Rattle.zone.proofs.Zone.meet.Tie as tie
-use Rattle.zone.proofs.Zone.meet.Reads as reads
-use Rattle.zone.proofs.Zone.meet.Lts as lts
-use Rattle.zone.proofs.Limit.leaves_room.Reads as leaves-room-reads
-use Rattle.zone.proofs.Zone.both.Reads as both-reads
-use Rattle.zone.proofs.Zone.tighten.Reads as tighten-reads
-
-leaves-room-requires : tie.Need-leaves-room-requires
-leaves-room-requires c κs = search needs
 
 returns : tie.Need-returns
 returns c =
@@ -23,18 +15,12 @@ returns c =
     let v : empty ≡ meet z w = no-room _ _ (meet z w) (c .before .leaves-room .ensures) (c .if1 .taken) ∙ meet-first-l z w in
     (v, meet-means z w v)
 
-leaves-room-requires-2 : tie.Need-leaves-room-requires-2
-leaves-room-requires-2 c κs = search needs
-
 returns-2 : tie.Need-returns-2
 returns-2 c =
     let z = c .before .before .before .before .args .self in
     let w = c .before .before .before .before .args .other in
     let v : empty ≡ meet z w = no-room _ _ (meet z w) (c .before .leaves-room2 .ensures) (c .if2 .taken) ∙ meet-first-r z w in
     (v, meet-means z w v)
-
-both-requires : tie.Need-both-requires
-both-requires c κs = search needs
 
 tighten-requires : tie.Need-tighten-requires
 tighten-requires c κs = rw (c .both .ensures) (ranged-both (c .before .before .before .before .before .args .self) (c .before .before .before .before .before .args .other) (c .before .before .before .before .before .pre .0) (c .before .before .before .before .before .pre .1))
@@ -50,11 +36,4 @@ returns-3 c =
 pub meet-spec : {M : Type 1} → statement M
 meet-spec =
     tie.close
-    (tie.spec
-    leaves-room-requires
-    returns
-    leaves-room-requires-2
-    returns-2
-    both-requires
-    tighten-requires
-    returns-3)
+    (tie.spec (λ c κs. search needs) returns (λ c κs. search needs) returns-2 (λ c κs. search needs) tighten-requires returns-3)

@@ -8,13 +8,6 @@ use mathlib.Core.Path.{_≡_, refl, ap, _∙_}
 use borrow.Author.Needs.{needs}
 use Rattle.zone.proofs.Zone.tighten.Statement.{statement}
 use Rattle.zone.proofs.Zone.tighten.Tie as tie
-use Rattle.zone.proofs.Zone.tighten.Reads as reads
-use Rattle.zone.proofs.Zone.tighten.Lts as lts
-use Rattle.zone.proofs.Limit.leaves_room.Reads as leaves-room-reads
-use Rattle.zone.proofs.Zone.tighter.Reads as tighter-reads
-
-tighter-requires : tie.Need-tighter-requires
-tighter-requires c κs = search needs
 
 leaves-room-requires : tie.Need-leaves-room-requires
 leaves-room-requires c κs = let r = rw (← c .tighter .ensures) at (ranged-tighter (c .before .args .self) (c .before .pre)) in (omega (arith, r .start), omega (arith, r .nstart))
@@ -56,12 +49,4 @@ returns-4 c =
 pub tighten-spec : {M : Type 1} → statement M
 tighten-spec =
     tie.close
-    (tie.spec
-    tighter-requires
-    leaves-room-requires
-    returns
-    leaves-room-requires-2
-    returns-2
-    leaves-room-requires-3
-    returns-3
-    returns-4)
+    (tie.spec (λ c κs. search needs) leaves-room-requires returns leaves-room-requires-2 returns-2 leaves-room-requires-3 returns-3 returns-4)
