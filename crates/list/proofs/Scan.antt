@@ -14,8 +14,9 @@ use Rattle.zone.specs.Words.{zoneAt}
 use Rattle.list.specs.Insert.{covered, outside}
 use Rattle.zone.proofs.Words.{same-zone}
 use Rattle.list.specs.Slots.{listAt, Holds, Kept}
-use Rattle.list.specs.Steps.{Copied, KeepsAs, Sifting}
-use Rattle.list.proofs.Slots.{listAt-length, listAt-next, listAt-snoc, kept-refl, listAt-kept, listAt-copied, listAt-same, kept-trans, kept-within}
+use Rattle.list.specs.Steps.{Copied, KeepsAs, Sifting, LookAs, Alone}
+use Rattle.list.specs.declared.Look.the-variants.{Clear}
+use Rattle.list.proofs.Slots.{listAt-length, listAt-next, listAt-split, listAt-snoc, kept-refl, listAt-kept, listAt-copied, listAt-same, kept-trans, kept-within}
 
 pub nothing-left : (ws : List ℤ) (a n i : ℕ) → n ≤ i → listAt ws a (n - i) ≡ []
 unfolding listAt
@@ -85,3 +86,48 @@ unfolding outside
 sift-end {z} {base} {n} {ws₀} {ws} {kept} {i} s h few =
     let e : outside z (listAt ws₀ base n) ≡ listAt ws base kept = s .value ∙ ap (λ (m : List Zone). listAt ws base kept ++ outside z m) (nothing-left ws (base + i * 6) n i h) ∙ append-nil (listAt ws base kept) in
     record { count = ap length e ∙ listAt-length ws base kept; few = omega (arith, s .fewer, s .most); zones = sym e }
+
+-- ---- one zone that gives way alone
+
+module _ {z : Zone} {base n k more : ℕ} {ws : List ℤ} (h : k < n) (few : n ≤ 128) (l : LookAs z ws base n (Clear k))
+    (rest : LookAs z ws (base + k * 6 + 6) (n - k - 1) (Clear more)) (all : n - k - 1 ≤ more) where
+  first : listAt ws (base + k * 6) (n - k) ≡ zoneAt ws (base + k * 6) ∷ listAt ws (base + k * 6 + 6) (n - k - 1)
+  first =
+      let e : base + (k + 1) * 6 ≡ base + k * 6 + 6 = omega arith in
+      let f : n - (k + 1) ≡ n - k - 1 = omega arith in
+      listAt-next ws base n k h ∙ (λ i. zoneAt ws (base + k * 6) ∷ listAt ws (e i) (f i))
+
+  alone-new : covered z (listAt ws base n) ≡ false
+  unfolding covered
+  alone-new =
+      let e = covered-end z ws (base + k * 6 + 6) (n - k - 1) more all (rest .0) in
+      sym (l .0) ∙ ap (covered z) first ∙ rw (l .2 h .outer, sym e)
+
+  stays : outside z (listAt ws (base + k * 6 + 6) (n - k - 1)) ≡ listAt ws (base + k * 6 + 6) (n - k - 1)
+  stays =
+      let e : more ≡ n - k - 1 = omega (arith, rest .1 .most) in
+      sym (sift-end (rest .1) all (omega arith) .zones) ∙ ap (listAt ws (base + k * 6 + 6)) e
+
+  alone-left : outside z (listAt ws base n) ≡ listAt ws base k ++ listAt ws (base + k * 6 + 6) (n - k - 1)
+  unfolding outside
+  alone-left = l .1 .value ∙ ap (λ (L : List Zone). listAt ws base k ++ outside z L) first ∙ rw (l .2 h .inside, stays)
+
+  pub alone : Alone z ws base n k
+  alone = record { some = h; new = alone-new; left = alone-left }
+
+-- the zones behind it have closed the gap
+module _ {z : Zone} {base n k : ℕ} {ws vs : List ℤ} (a : Alone z ws base n k) (few : n ≤ 128) (c : Copied (base + k * 6 + 6) (base + k * 6) ((n - k - 1) * 6) ws vs) where
+  moved : listAt vs base (n - 1) ≡ listAt ws base k ++ listAt ws (base + k * 6 + 6) (n - k - 1)
+  moved =
+      let e : n - 1 ≡ k + (n - k - 1) = omega (arith, a .some) in
+      let front : listAt vs base k ≡ listAt ws base k = listAt-kept base k (c .kept) (inl (omega arith)) in
+      let back : listAt vs (base + k * 6) (n - k - 1) ≡ listAt ws (base + k * 6 + 6) (n - k - 1) = listAt-copied (n - k - 1) c in
+      ap (listAt vs base) e ∙ listAt-split vs base k (n - k - 1) ∙ (λ i. front i ++ back i)
+
+  pub closed : Holds vs base (n - 1) (outside z (listAt ws base n))
+  closed =
+      let e : listAt vs base (n - 1) ≡ outside z (listAt ws base n) = moved ∙ sym (a .left) in
+      record { count = ap length (sym e) ∙ listAt-length vs base (n - 1); few = omega arith; zones = e }
+
+  pub closed-kept : Kept base 768 ws vs
+  closed-kept = kept-within (omega arith) (omega (arith, a .some)) (c .kept)

@@ -95,6 +95,18 @@ listAt-snoc ws base (suc n) =
 pub copied-none : (from to : ℕ) (ws : List ℤ) → Copied from to 0 ws ws
 copied-none from to ws = record { moved = λ k h. absurd (omega arith); kept = kept-refl to 0 ws }
 
+-- a list is its first k zones and the rest
+pub listAt-split : (ws : List ℤ) (base k m : ℕ) → listAt ws base (k + m) ≡ listAt ws base k ++ listAt ws (base + k * 6) m
+unfolding listAt
+listAt-split ws base zero m =
+    let e : zero + m ≡ m = omega arith in
+    let f : base + zero * 6 ≡ base = omega arith in
+    rw (e, f)
+listAt-split ws base (suc k) m =
+    let e : suc k + m ≡ suc (k + m) = omega arith in
+    let f : base + 6 + k * 6 ≡ base + suc k * 6 = omega arith in
+    ap (listAt ws base) e ∙ ap (λ (L : List Zone). zoneAt ws base ∷ L) (listAt-split ws (base + 6) k m ∙ ap (λ (at : ℕ). listAt ws (base + 6) k ++ listAt ws at m) f)
+
 -- words that stand there already
 pub copied-there : {from to : ℕ} (n : ℕ) (ws : List ℤ) → from ≡ to → Copied from to n ws ws
 copied-there {from} n ws e = subst (λ (at : ℕ). Copied from at n ws ws) e (record { moved = λ k h. refl; kept = kept-refl from n ws })

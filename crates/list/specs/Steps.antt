@@ -6,7 +6,8 @@ use mathlib.Core.List.{List, _++_}
 use Prim.Native.Nat.{ℕ, _+_, _-_, _*_, _≤_, _<_}
 use lib.IntN.{ℤ}
 use Rattle.zone.specs.declared.Zone.{Zone}
-use Rattle.zone.specs.Words.{word}
+use Rattle.zone.specs.Words.{word, zoneAt}
+use Rattle.zone.specs.Zone.{contains}
 use Rattle.zone.specs.declared.MaybeZone.{MaybeZone}
 use Rattle.list.specs.Insert.{covered, outside, Built, listed, overfull, insert-each}
 use Rattle.list.specs.Star.{Outcome, finished, burst, Rounds, round}
@@ -38,10 +39,22 @@ pub record Sifting (z : Zone) (base n : ℕ) (ws₀ ws : List ℤ) (kept i : ℕ
   pub value : outside z (listAt ws₀ base n) ≡ listAt ws base kept ++ outside z (listAt ws (base + i * 6) (n - i))
   pub frame : Kept base 768 ws₀ ws
 
--- a listed zone holds z; or the first k zones neither hold z nor lie inside it
+-- zone k does not hold z and lies inside it
+pub record Gives (z y : Zone) : Type 0 where
+  pub outer : contains y z ≡ false
+  pub inside : contains z y ≡ true
+
+-- a listed zone holds z; or the first k zones neither hold z nor lie inside it, and the next one, if there is one, gives way
 abbrev pub LookAs : Zone → List ℤ → ℕ → ℕ → Look → Type 0
 LookAs z ws base n Held = covered z (listAt ws base n) ≡ true
-LookAs z ws base n (Clear k) = (covered z (listAt ws (base + k * 6) (n - k)) ≡ covered z (listAt ws base n)) × Sifting z base n ws ws k k
+LookAs z ws base n (Clear k) =
+    (covered z (listAt ws (base + k * 6) (n - k)) ≡ covered z (listAt ws base n)) × Sifting z base n ws ws k k × (k < n → Gives z (zoneAt ws (base + k * 6)))
+
+-- no listed zone holds z, and zone k alone lies inside it
+pub record Alone (z : Zone) (ws : List ℤ) (base n k : ℕ) : Type 0 where
+  pub some : k < n
+  pub new : covered z (listAt ws base n) ≡ false
+  pub left : outside z (listAt ws base n) ≡ listAt ws base k ++ listAt ws (base + k * 6 + 6) (n - k - 1)
 
 -- whether puts changed the list S into M: a mark in the place of a comparison. A zone that was placed stays covered, and was not before
 abbrev pub Mark : Bool → List Zone → List Zone → Type 0

@@ -6,6 +6,7 @@
 use zone::MaybeZone;
 use zone::Zone;
 ghost use mathlib.Core.Path.{_≡_};
+ghost use mathlib.Core.Bool.{true};
 ghost use mathlib.Core.Logic.{_⊎_};
 ghost use mathlib.Core.List.{[], _∷_, map};
 ghost use Prim.Native.Nat.{_+_, _*_, _≤_, _<_};
@@ -16,7 +17,8 @@ ghost use Rattle.zone.specs.Zone.{Proper, Ranged, contains, diagonal};
 ghost use Rattle.list.specs.Insert.{covered, outside};
 ghost use Rattle.list.specs.Operators.{apply, pairs, union, meets, compositions, banded};
 ghost use Rattle.list.specs.Slots.{listAt, Slot, Source, Holds, Kept, KeptBoth, Disjoint, SoundBand, InsertAs, BuiltAs, StarAs};
-ghost use Rattle.list.specs.Steps.{Copied, KeepsAs, Sifting, LookAs, GrowsAs, RoundAs, EndsAs};
+ghost use Rattle.list.specs.declared.Look.the-variants.{Clear};
+ghost use Rattle.list.specs.Steps.{Copied, KeepsAs, Sifting, LookAs, Alone, GrowsAs, RoundAs, EndsAs};
 
 // What a put comes to: turned away, placed with the new count, or a list that would have 129 zones.
 pub enum Inserted {
@@ -101,7 +103,7 @@ fn covered(words: &[i32], base: usize, count: usize, w: &[i32]) -> bool
 
 // Goes over a list up to the first zone that holds the one of six words w, or lies inside it.
 fn look_over(words: &[i32], base: usize, count: usize, w: &[i32]) -> Look
-    requires { ⌜ (Slot (now words) base count) × (6 ≤ length (now w)) ⌝ }
+    requires { ⌜ (count ≤ 128) × (base + count * 6 ≤ length (now words)) × (6 ≤ length (now w)) ⌝ }
     ensures { λ r. ⌜ LookAs (zoneAt (now (w .entry)) 0) (now (words .entry)) base count r ⌝ }
 {
     let mut i = 0;
@@ -116,6 +118,21 @@ fn look_over(words: &[i32], base: usize, count: usize, w: &[i32]) -> Look
         i += 1;
     }
     Look::Clear(i)
+}
+
+// Whether there is a zone behind the first `clear`, and it alone gives way to the one of six words w.
+fn gives_way_alone(words: &[i32], base: usize, count: usize, clear: usize, w: &[i32]) -> bool
+    requires { ⌜ (Slot (now words) base count) × (6 ≤ length (now w)) × (LookAs (zoneAt (now w) 0) (now words) base count (Clear clear)) ⌝ }
+    ensures { λ r. ⌜ (r ≡ true → Alone (zoneAt (now (w .entry)) 0) (now (words .entry)) base count clear) ⌝ }
+{
+    if count <= clear {
+        return false;
+    }
+    let behind = count - clear - 1;
+    let Look::Clear(more) = look_over(words, base + clear * 6 + 6, behind, w) else {
+        return false;
+    };
+    behind <= more
 }
 
 // Keeps the i-th zone, behind the first `kept`, unless it lies inside the one of six words w; answers how many are kept.
@@ -160,6 +177,17 @@ pub fn insert(words: &mut [i32], base: usize, count: usize, z: Zone) -> Inserted
     let Look::Clear(clear) = look_over(words, base, count, &w) else {
         return Inserted::Away;
     };
+    if gives_way_alone(words, base, count, clear, &w) {
+        // The distance is fixed, so that the zones behind it move many words at once.
+        copy_words(
+            words,
+            base + clear * 6 + 6,
+            base + clear * 6,
+            (count - clear - 1) * 6,
+        );
+        zone::write_zone(words, base + (count - 1) * 6, z);
+        return Inserted::Placed(count);
+    }
     if covered(words, base + clear * 6, count - clear, &w) {
         return Inserted::Away;
     }

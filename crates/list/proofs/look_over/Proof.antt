@@ -1,5 +1,5 @@
 -- `look_over` meets its contract: the zones passed neither hold the new one nor lie inside it. Assumes nothing.
-use mathlib.Core.Path.{_≡_, refl, sym}
+use mathlib.Core.Path.{_≡_, refl, sym, _∙_}
 use Prim.Native.Nat.{_+_, _-_, _*_}
 use native.Mathlib.Omega.{arith}
 use Rattle.zone.specs.Words.{zoneAt}
@@ -38,7 +38,9 @@ included-requires-2 : tie.Need-included-requires-2 Inv-loop μ-loop
 included-requires-2 c κs = (omega arith, omega arith)
 
 returns-2 : tie.Need-returns-2 Inv-loop μ-loop
-returns-2 c = c .before .before .before .before .before .loop .inv
+returns-2 c =
+    let v = c .before .before .before .before .before .loop .inv in
+    (v .0, v .1, λ h. record { outer = sym (c .before .before .before .included .ensures .0) ∙ c .before .before .if1 .left; inside = sym (c .before .included2 .ensures .0) ∙ c .if2 .taken })
 
 add-i : tie.Need-add-i Inv-loop μ-loop
 add-i c = omega arith
@@ -49,11 +51,11 @@ loop-less c = omega arith
 loop-again : tie.Need-loop-again Inv-loop μ-loop
 loop-again c = (
   covered-on _ _ _ _ _ (c .before .before .before .before .loop-test .taken) (c .before .before .before .included .ensures .0) (c .before .before .before .before .before .loop .inv .0) (c .before .before .if1 .left),
-  sift-step (c .before .before .before .before .before .loop .inv .1) (c .before .before .before .before .loop-test .taken) (c .before .before .before .before .before .before .pre .0 .few) (rw (← c .before .included2 .ensures .0, c .if2 .left) (refl, copied-there 6 _ refl)),
+  sift-step (c .before .before .before .before .before .loop .inv .1) (c .before .before .before .before .loop-test .taken) (c .before .before .before .before .before .before .pre .0) (rw (← c .before .included2 .ensures .0, c .if2 .left) (refl, copied-there 6 _ refl)),
 )
 
 returns-3 : tie.Need-returns-3 Inv-loop μ-loop
-returns-3 c = c .before .loop .inv
+returns-3 c = let v = c .before .loop .inv in (v .0, v .1, λ h. absurd (omega (arith, c .loop-test .left)))
 
 pub look-over-spec : {M : Type 1} → statement M
 look-over-spec =
