@@ -166,18 +166,16 @@ fn remove_inside(words: &mut [i32], base: usize, count: usize, clear: usize, w: 
     kept
 }
 
-// Puts a zone into the list of a slot.
-pub fn insert(words: &mut [i32], base: usize, count: usize, z: Zone) -> Inserted
-    requires { ⌜ (Slot (now words) base count) × (Ranged 1_000_000 z) ⌝ }
-    ensures { λ r. ⌜ InsertAs z (now (words .entry)) base count (now (words .exit)) r ⌝ }
+// Puts the zone of six words w into the list of a slot.
+fn insert_words(words: &mut [i32], base: usize, count: usize, w: &[i32]) -> Inserted
+    requires { ⌜ (Slot (now words) base count) × (6 ≤ length (now w)) ⌝ }
+    ensures { λ r. ⌜ InsertAs (zoneAt (now (w .entry)) 0) (now (words .entry)) base count (now (words .exit)) r ⌝ }
 {
-    let mut w = [0i32; 6];
-    zone::write_zone(&mut w, 0, z);
     // Most often no zone at all holds the new one or lies inside it, and this is the only scan.
-    let Look::Clear(clear) = look_over(words, base, count, &w) else {
+    let Look::Clear(clear) = look_over(words, base, count, w) else {
         return Inserted::Away;
     };
-    if gives_way_alone(words, base, count, clear, &w) {
+    if gives_way_alone(words, base, count, clear, w) {
         // The distance is fixed, so that the zones behind it move many words at once.
         copy_words(
             words,
@@ -185,27 +183,37 @@ pub fn insert(words: &mut [i32], base: usize, count: usize, z: Zone) -> Inserted
             base + clear * 6,
             (count - clear - 1) * 6,
         );
-        zone::write_zone(words, base + (count - 1) * 6, z);
+        zone::copy_zone(words, base + (count - 1) * 6, w, 0);
         return Inserted::Placed(count);
     }
-    if covered(words, base + clear * 6, count - clear, &w) {
+    if covered(words, base + clear * 6, count - clear, w) {
         return Inserted::Away;
     }
-    let kept = remove_inside(words, base, count, clear, &w);
+    let kept = remove_inside(words, base, count, clear, w);
     if 128 <= kept {
         return Inserted::Full;
     }
-    zone::write_zone(words, base + kept * 6, z);
+    zone::copy_zone(words, base + kept * 6, w, 0);
     Inserted::Placed(kept + 1)
 }
 
-// Puts one zone more into a growing list, and marks whether it was placed.
-fn grow(words: &mut [i32], target: usize, count: usize, changed: bool, z: Zone) -> Grown
-    requires { ⌜ (Slot (now words) target count) × (Ranged 1_000_000 z) ⌝ }
-    ensures grown { λ r. ⌜ GrowsAs (zone z ∷ []) changed (now (words .entry)) target count (now (words .exit)) r ⌝ }
+// Puts a zone into the list of a slot.
+pub fn insert(words: &mut [i32], base: usize, count: usize, z: Zone) -> Inserted
+    requires { ⌜ (Slot (now words) base count) × (Ranged 1_000_000 z) ⌝ }
+    ensures { λ r. ⌜ InsertAs z (now (words .entry)) base count (now (words .exit)) r ⌝ }
+{
+    let mut w = [0i32; 6];
+    zone::write_zone(&mut w, 0, z);
+    insert_words(words, base, count, &w)
+}
+
+// Puts one zone more into a growing list, that of six words w, and marks whether it was placed.
+fn grow(words: &mut [i32], target: usize, count: usize, changed: bool, w: &[i32]) -> Grown
+    requires { ⌜ (Slot (now words) target count) × (6 ≤ length (now w)) ⌝ }
+    ensures grown { λ r. ⌜ GrowsAs (zone (zoneAt (now (w .entry)) 0) ∷ []) changed (now (words .entry)) target count (now (words .exit)) r ⌝ }
     ensures kept { λ _. ⌜ Kept target 768 (now (words .entry)) (now (words .exit)) ⌝ }
 {
-    match insert(words, target, count, z) {
+    match insert_words(words, target, count, w) {
         Inserted::Away => Grown::Grew { count, changed },
         Inserted::Placed(n) => Grown::Grew {
             count: n,
@@ -224,6 +232,17 @@ fn apply(op: Operation, z: Zone, w: Zone) -> MaybeZone
         Operation::Meet => z.meet(w),
         Operation::Compose => z.compose(w),
     }
+}
+
+// Puts a zone that was worked out, by its words.
+fn grow_by(words: &mut [i32], target: usize, count: usize, changed: bool, z: Zone) -> Grown
+    requires { ⌜ (Slot (now words) target count) × (Ranged 1_000_000 z) ⌝ }
+    ensures grown { λ r. ⌜ GrowsAs (zone z ∷ []) changed (now (words .entry)) target count (now (words .exit)) r ⌝ }
+    ensures kept { λ _. ⌜ Kept target 768 (now (words .entry)) (now (words .exit)) ⌝ }
+{
+    let mut w = [0i32; 6];
+    zone::write_zone(&mut w, 0, z);
+    grow(words, target, count, changed, &w)
 }
 
 // Puts z's meet or composition with each of the m zones of a slot; an empty one is passed over.
@@ -253,7 +272,7 @@ fn each_right(
         let Grown::Grew {
             count: k,
             changed: b,
-        } = grow(words, target, n, mark, v)
+        } = grow_by(words, target, n, mark, v)
         else {
             return Grown::TooMany;
         };
@@ -304,6 +323,17 @@ fn each_pair(
     }
 }
 
+// Puts the zone from `at` on.
+fn grow_from(words: &mut [i32], at: usize, target: usize, count: usize, changed: bool) -> Grown
+    requires { ⌜ (at + 6 ≤ length (now words)) × (Slot (now words) target count) ⌝ }
+    ensures grown { λ r. ⌜ GrowsAs (zone (zoneAt (now (words .entry)) at) ∷ []) changed (now (words .entry)) target count (now (words .exit)) r ⌝ }
+    ensures kept { λ _. ⌜ Kept target 768 (now (words .entry)) (now (words .exit)) ⌝ }
+{
+    let mut w = [0i32; 6];
+    zone::copy_zone(&mut w, 0, words, at);
+    grow(words, target, count, changed, &w)
+}
+
 // Puts the n zones of a slot, in their order.
 fn each_zone(
     words: &mut [i32],
@@ -321,11 +351,10 @@ fn each_zone(
     let mut mark = changed;
     let mut i = 0;
     while i < n {
-        let z = zone::read_zone(words, source + i * 6);
         let Grown::Grew {
             count: next,
             changed: b,
-        } = grow(words, target, k, mark, z)
+        } = grow_from(words, source + i * 6, target, k, mark)
         else {
             return Grown::TooMany;
         };
@@ -549,8 +578,9 @@ pub fn star(
         return Starred::Burst;
     };
     bring(words, at, n, target);
-    let Grown::Grew { count, changed: _ } = grow(words, target, n, false, Zone::diagonal(from, to))
-    else {
+    let mut w = [0i32; 6];
+    zone::write_zone(&mut w, 0, Zone::diagonal(from, to));
+    let Grown::Grew { count, changed: _ } = grow(words, target, n, false, &w) else {
         return Starred::Burst; // the diagonal would be the 129th
     };
     Starred::Finished {

@@ -10,7 +10,7 @@ use Rattle.zone.specs.Zone.{Zone, tighter, both, limited, everything, Ra
 use Rattle.zone.proofs.Linear.{sum-value}
 use Rattle.zone.proofs.Order.{lesser-of}
 
-small-sum : {n : ℕ} (l m : Limit) → Small n l → Small n m → Small (suc (n + n)) (l ⊕ m)
+pub small-sum : {n : ℕ} (l m : Limit) → Small n l → Small n m → Small (suc (n + n)) (l ⊕ m)
 small-sum {n} l m h k = rw (sum-value l m) (omega (arithZ, sum (value l) (value m), size (value l), size (value m), size (value l +ℤ value m)))
 
 small-more : {n k : ℕ} (l : Limit) → n ≤ k → Small n l → Small k l

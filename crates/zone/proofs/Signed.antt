@@ -1,18 +1,19 @@
 -- What the machine's numbers hold in the functions on limits.
-use mathlib.Core.Path.{_≡_, ap, _∙_}
-use mathlib.Core.Bool.{Bool, true, false, cond}
+use mathlib.Core.Path.{_≡_, sym, ap, subst, _∙_}
 use Prim.Native.Nat.{ℕ, _≤_}
+use native.Mathlib.Omega.{arith}
 use lib.IntN.{ℤ, pos, negℤ, _+ℤ_, _-ℤ_, _*ℤ_, +ℤ-idl}
-use lib.Signed.{mag, shrZ, mag-shr, ltZ}
+use lib.Signed.{mag, shrZ, mag-shr, leZ}
 use mir.Syntax.{w32}
 use mir.Val.{SFits, toZ, ofZ}
 use mir.ValLaws.{sfits-le}
 use Rattle.signed.proofs.Integers.{arithZ, sum, diff, neg, size, half, times}
-use Rattle.signed.proofs.Machine.{back, fits-by, op-fits, op-is}
-use Rattle.zone.specs.Limit.{Limit, AtMost, Below, Small, code, decode}
+use Rattle.signed.proofs.Machine.{back, fits-by}
+use Rattle.zone.specs.Limit.{Limit, AtMost, Below, Small, at-most, lesser, _⊕_, nought, code, decode}
+use Rattle.zone.proofs.Words.{decode-code, code-decode, decode-odd, decode-even, room-beside, sum-odd, sum-even}
 
 -- the sum that a call of `add` gives, kept in a local
-pub sum-back : {x y r : ℤ} → SFits w32 x → SFits w32 y → SFits w32 r → r ≡ toZ w32 (ofZ w32 x) +ℤ toZ w32 (ofZ w32 y) → toZ w32 (ofZ w32 r) ≡ x +ℤ y
+sum-back : {x y r : ℤ} → SFits w32 x → SFits w32 y → SFits w32 r → r ≡ toZ w32 (ofZ w32 x) +ℤ toZ w32 (ofZ w32 y) → toZ w32 (ofZ w32 r) ≡ x +ℤ y
 sum-back fx fy fr e = back fr ∙ e ∙ rw (back fx, back fy)
 
 -- what a call gave, kept in a local
@@ -74,23 +75,73 @@ module _ {w : ℤ} (f : SFits w32 w) where
   whole-is : toZ w32 (ofZ w32 (toZ w32 (ofZ w32 (shrZ (toZ w32 (ofZ w32 w)) 2)) *ℤ pos 2)) ≡ shrZ w 2 *ℤ pos 2
   whole-is = rw half-is (back whole)
 
-  pub decode-odd : ltZ (toZ w32 (ofZ w32 (toZ w32 (ofZ w32 (shrZ (toZ w32 (ofZ w32 w)) 2)) *ℤ pos 2))) (toZ w32 (ofZ w32 w)) ≡ true → AtMost (toZ w32 (ofZ w32 (shrZ (toZ w32 (ofZ w32 w)) 2))) ≡ decode w
-  decode-odd t = let q : ltZ (shrZ w 2 *ℤ pos 2) w ≡ true = rw (whole-is, back f) at t in rw (half-is, q)
+  -- the test is of the bits
+  pub of-odd : ¬ (ofZ w32 (toZ w32 (ofZ w32 (shrZ (toZ w32 (ofZ w32 w)) 2)) *ℤ pos 2) ≡ ofZ w32 w) → AtMost (toZ w32 (ofZ w32 (shrZ (toZ w32 (ofZ w32 w)) 2))) ≡ decode w
+  of-odd n = rw half-is (sym (decode-odd w (λ e. n (rw (half-is, e)))))
 
-  pub decode-even : ltZ (toZ w32 (ofZ w32 (toZ w32 (ofZ w32 (shrZ (toZ w32 (ofZ w32 w)) 2)) *ℤ pos 2))) (toZ w32 (ofZ w32 w)) ≡ false → Below (toZ w32 (ofZ w32 (shrZ (toZ w32 (ofZ w32 w)) 2))) ≡ decode w
-  decode-even t = let q : ltZ (shrZ w 2 *ℤ pos 2) w ≡ false = rw (whole-is, back f) at t in rw (half-is, q)
+  same-whole : ofZ w32 (toZ w32 (ofZ w32 (shrZ (toZ w32 (ofZ w32 w)) 2)) *ℤ pos 2) ≡ ofZ w32 w → shrZ w 2 *ℤ pos 2 ≡ w
+  same-whole t = sym whole-is ∙ ap (toZ w32) t ∙ back f
 
--- the sum of two words
+  pub of-even : ofZ w32 (toZ w32 (ofZ w32 (shrZ (toZ w32 (ofZ w32 w)) 2)) *ℤ pos 2) ≡ ofZ w32 w → Below (toZ w32 (ofZ w32 (shrZ (toZ w32 (ofZ w32 w)) 2))) ≡ decode w
+  of-even t = rw half-is (sym (decode-even w (same-whole t)))
+
+-- two words, and room between their limits
 code-small : (l : Limit) → Small 4_000_000 l → mag (code l) ≤ 8_000_001
 code-small (AtMost v) h = omega (arithZ, times v 2, sum (v *ℤ pos 2) (pos 1), size v, size (v *ℤ pos 2 +ℤ pos 1))
 code-small (Below v) h = omega (arithZ, times v 2, size v, size (v *ℤ pos 2))
 
-module _ (l m : Limit) {x y : ℤ} (fx : SFits w32 x) (fy : SFits w32 y) (p : x ≡ code l) (q : y ≡ code m) (hl : Small 4_000_000 l) (hm : Small 4_000_000 m) where
-  total : SFits w32 (x +ℤ y)
-  total = rw (p, q) (fits-by (omega (arithZ, sum (code l) (code m), size (code l), size (code m), size (code l +ℤ code m), code-small l hl, code-small m hm)))
+module _ (m : Limit) {y : ℤ} (f : SFits w32 y) (q : y ≡ code m) (h : Small 4_000_000 m) where
+  rest : SFits w32 (pos 2 -ℤ y)
+  rest = rw q (fits-by (omega (arithZ, diff (pos 2) (code m), size (code m), size (pos 2 -ℤ code m), code-small m h)))
 
-  pub total-fits : SFits w32 (toZ w32 (ofZ w32 x) +ℤ toZ w32 (ofZ w32 y))
-  total-fits = op-fits _+ℤ_ fx fy total
+  pub rest-fits : SFits w32 (pos 2 -ℤ toZ w32 (ofZ w32 y))
+  rest-fits = rw (back f) rest
 
-  pub total-is : toZ w32 (ofZ w32 (toZ w32 (ofZ w32 x) +ℤ toZ w32 (ofZ w32 y))) ≡ code l +ℤ code m
-  total-is = op-is _+ℤ_ fx fy total ∙ rw (p, q)
+  pub room-is : (l : Limit) {x : ℤ} → SFits w32 x → x ≡ code l → leZ (toZ w32 (ofZ w32 (pos 2 -ℤ toZ w32 (ofZ w32 y)))) (toZ w32 (ofZ w32 x)) ≡ at-most nought (l ⊕ m)
+  room-is l g p = rw (back g, back f, back rest, p, q) (room-beside l m)
+
+-- a word of a limit in range
+word-small : (a : ℤ) → Small 4_000_000 (decode a) → mag a ≤ 8_000_001
+word-small a h = subst (λ (x : ℤ). mag x ≤ 8_000_001) (code-decode a) (code-small (decode a) h)
+
+-- and the same without its mark of being reached
+even-small : (a : ℤ) → Small 4_000_000 (decode a) → mag (shrZ a 2 *ℤ pos 2) ≤ 8_000_002
+even-small a h = omega (arithZ, times (shrZ a 2) 2, half a, size a, size (shrZ a 2 *ℤ pos 2), word-small a h)
+
+small-total : (x y : ℤ) → mag x ≤ 8_000_002 → mag y ≤ 8_000_002 → SFits w32 (x +ℤ y)
+small-total x y p q = fits-by (omega (arithZ, sum x y, size x, size y, size (x +ℤ y), p, q))
+
+module _ {a b : ℤ} (f : SFits w32 a) (g : SFits w32 b) (p : Small 4_000_000 (decode a)) (q : Small 4_000_000 (decode b)) where
+  pub odd-fits : SFits w32 (toZ w32 (ofZ w32 (toZ w32 (ofZ w32 (shrZ (toZ w32 (ofZ w32 a)) 2)) *ℤ pos 2)) +ℤ toZ w32 (ofZ w32 b))
+  odd-fits = rw (whole-is f, back g) (small-total (shrZ a 2 *ℤ pos 2) b (even-small a p) (omega (arith, word-small b q)))
+
+  pub odd-is : ¬ (ofZ w32 (toZ w32 (ofZ w32 (shrZ (toZ w32 (ofZ w32 a)) 2)) *ℤ pos 2) ≡ ofZ w32 a) → toZ w32 (ofZ w32 (toZ w32 (ofZ w32 (toZ w32 (ofZ w32 (shrZ (toZ w32 (ofZ w32 a)) 2)) *ℤ pos 2)) +ℤ toZ w32 (ofZ w32 b))) ≡ code (decode a ⊕ decode b)
+  odd-is n = rw (back odd-fits, whole-is f, back g) (sum-odd a b (λ e. n (rw (half-is f, e))))
+
+  pub even-fits : SFits w32 (toZ w32 (ofZ w32 (toZ w32 (ofZ w32 (shrZ (toZ w32 (ofZ w32 a)) 2)) *ℤ pos 2)) +ℤ toZ w32 (ofZ w32 (toZ w32 (ofZ w32 (shrZ (toZ w32 (ofZ w32 b)) 2)) *ℤ pos 2)))
+  even-fits = rw (whole-is f, whole-is g) (small-total (shrZ a 2 *ℤ pos 2) (shrZ b 2 *ℤ pos 2) (even-small a p) (even-small b q))
+
+  pub even-is : ofZ w32 (toZ w32 (ofZ w32 (shrZ (toZ w32 (ofZ w32 a)) 2)) *ℤ pos 2) ≡ ofZ w32 a → toZ w32 (ofZ w32 (toZ w32 (ofZ w32 (toZ w32 (ofZ w32 (shrZ (toZ w32 (ofZ w32 a)) 2)) *ℤ pos 2)) +ℤ toZ w32 (ofZ w32 (toZ w32 (ofZ w32 (shrZ (toZ w32 (ofZ w32 b)) 2)) *ℤ pos 2)))) ≡ code (decode a ⊕ decode b)
+  even-is t = rw (back even-fits, whole-is f, whole-is g) (sum-even a b (same-whole f t))
+
+-- what two calls on words kept in locals gave, kept in a local
+pub or-sum-is : {a b c s r : ℤ} → SFits w32 a → SFits w32 b → SFits w32 c → SFits w32 s → SFits w32 r → s ≡ code (decode (toZ w32 (ofZ w32 b)) ⊕ decode (toZ w32 (ofZ w32 c)))
+    → r ≡ code (lesser (decode (toZ w32 (ofZ w32 a))) (decode (toZ w32 (ofZ w32 s)))) → toZ w32 (ofZ w32 r) ≡ code (lesser (decode a) (decode b ⊕ decode c))
+or-sum-is {a} {b} {c} fa fb fc fs fr p q = back fr ∙ q ∙ rw (back fa, back fs, p, back fb, back fc, decode-code (decode b ⊕ decode c))
+
+-- the words of limits, kept in locals, and what is computed of them
+word-kept : {x : ℤ} (l : Limit) → SFits w32 x → x ≡ code l → decode (toZ w32 (ofZ w32 x)) ≡ l
+word-kept l f e = ap decode (read-back f e) ∙ decode-code l
+
+pub small-kept : {x : ℤ} (l : Limit) → SFits w32 x → x ≡ code l → Small 4_000_000 l → Small 4_000_000 (decode (toZ w32 (ofZ w32 x)))
+small-kept l f e h = rw (word-kept l f e) h
+
+pub sum-kept : (l m : Limit) {x y r : ℤ} → SFits w32 x → SFits w32 y → SFits w32 r → x ≡ code l → y ≡ code m → r ≡ code (decode (toZ w32 (ofZ w32 x)) ⊕ decode (toZ w32 (ofZ w32 y))) → decode (toZ w32 (ofZ w32 r)) ≡ l ⊕ m
+sum-kept l m f g h p q e = word-kept (l ⊕ m) h (e ∙ rw (word-kept l f p, word-kept m g q))
+
+pub lesser-kept : (l m : Limit) {x y r : ℤ} → SFits w32 x → SFits w32 y → SFits w32 r → x ≡ code l → y ≡ code m → r ≡ code (lesser (decode (toZ w32 (ofZ w32 x))) (decode (toZ w32 (ofZ w32 y)))) → decode (toZ w32 (ofZ w32 r)) ≡ lesser l m
+lesser-kept l m f g h p q e = word-kept (lesser l m) h (e ∙ rw (word-kept l f p, word-kept m g q))
+
+pub or-sum-kept : (l a b : Limit) {x y z r : ℤ} → SFits w32 x → SFits w32 y → SFits w32 z → SFits w32 r → x ≡ code l → y ≡ code a → z ≡ code b
+    → r ≡ code (lesser (decode (toZ w32 (ofZ w32 x))) (decode (toZ w32 (ofZ w32 y)) ⊕ decode (toZ w32 (ofZ w32 z)))) → decode (toZ w32 (ofZ w32 r)) ≡ lesser l (a ⊕ b)
+or-sum-kept l a b f g h k p q s e = word-kept (lesser l (a ⊕ b)) k (e ∙ rw (word-kept l f p, word-kept a g q, word-kept b h s))

@@ -6,12 +6,12 @@ use Prim.Native.Nat.{ℕ, suc, _+_, _-_, _≤_, _<_}
 use native.Mathlib.Omega.{arith}
 use native.Mathlib.Nat.{add-zero}
 use lib.Dec.{T}
-use lib.IntN.{ℤ, pos, _+ℤ_, _*ℤ_}
+use lib.IntN.{ℤ, pos, _+ℤ_, _-ℤ_, _*ℤ_}
 use lib.Signed.{leZ, ltZ, shrZ}
 use lib.ListN.{length, getD, set, take, drop, length-append, length-take, length-drop, List·getD-append}
 use lib.Seq.{sets-eq, length-take-le, getD-append-add, getD-take, getD-drop}
-use Rattle.signed.proofs.Integers.{arithZ, sum, half, times}
-use Rattle.zone.specs.Limit.{Limit, AtMost, Below, at-most, _⊕_, nought, code, decode}
+use Rattle.signed.proofs.Integers.{arithZ, sum, diff, half, times}
+use Rattle.zone.specs.Limit.{Limit, AtMost, Below, at-most, lesser, _⊕_, nought, code, decode}
 use Rattle.zone.specs.Zone.{Zone, contains}
 use Rattle.zone.specs.Words.{word, codes, zoneAt, overwrite}
 
@@ -53,15 +53,57 @@ code-order (Below a) (AtMost b) = same-test _ _ (λ t. omega (arithZ, t, times a
 code-order (Below a) (Below b) = same-test _ _ (λ t. omega (arithZ, t, times a 2, times b 2)) (λ t. omega (arithZ, t, times a 2, times b 2))
 
 -- a limit and one on the negated quantity leave room where their words come to 2 or more
-pub code-room : (l m : Limit) → at-most nought (l ⊕ m) ≡ leZ (pos 2) (code l +ℤ code m)
+code-room : (l m : Limit) → at-most nought (l ⊕ m) ≡ leZ (pos 2) (code l +ℤ code m)
 unfolding _⊕_
 code-room (AtMost a) (AtMost b) = same-test _ _ (λ t. omega (arithZ, t, times a 2, times b 2, sum a b, sum (a *ℤ pos 2) (pos 1), sum (b *ℤ pos 2) (pos 1), sum (a *ℤ pos 2 +ℤ pos 1) (b *ℤ pos 2 +ℤ pos 1))) (λ t. omega (arithZ, t, times a 2, times b 2, sum a b, sum (a *ℤ pos 2) (pos 1), sum (b *ℤ pos 2) (pos 1), sum (a *ℤ pos 2 +ℤ pos 1) (b *ℤ pos 2 +ℤ pos 1)))
 code-room (AtMost a) (Below b) = same-test _ _ (λ t. omega (arithZ, t, times a 2, times b 2, sum a b, sum (a *ℤ pos 2) (pos 1), sum (a *ℤ pos 2 +ℤ pos 1) (b *ℤ pos 2))) (λ t. omega (arithZ, t, times a 2, times b 2, sum a b, sum (a *ℤ pos 2) (pos 1), sum (a *ℤ pos 2 +ℤ pos 1) (b *ℤ pos 2)))
 code-room (Below a) (AtMost b) = same-test _ _ (λ t. omega (arithZ, t, times a 2, times b 2, sum a b, sum (b *ℤ pos 2) (pos 1), sum (a *ℤ pos 2) (b *ℤ pos 2 +ℤ pos 1))) (λ t. omega (arithZ, t, times a 2, times b 2, sum a b, sum (b *ℤ pos 2) (pos 1), sum (a *ℤ pos 2) (b *ℤ pos 2 +ℤ pos 1)))
 code-room (Below a) (Below b) = same-test _ _ (λ t. omega (arithZ, t, times a 2, times b 2, sum a b, sum (a *ℤ pos 2) (b *ℤ pos 2))) (λ t. omega (arithZ, t, times a 2, times b 2, sum a b, sum (a *ℤ pos 2) (b *ℤ pos 2)))
 
+pub room-beside : (l m : Limit) → leZ (pos 2 -ℤ code m) (code l) ≡ at-most nought (l ⊕ m)
+room-beside l m =
+    same-test _ _ (λ t. omega (arithZ, t, diff (pos 2) (code m), sum (code l) (code m))) (λ t. omega (arithZ, t, diff (pos 2) (code m), sum (code l) (code m)))
+    ∙ sym (code-room l m)
+
 pub decode-order : (a b : ℤ) → at-most (decode a) (decode b) ≡ leZ a b
 decode-order a b = code-order (decode a) (decode b) ∙ rw (code-decode a, code-decode b)
+
+-- ---- a sum, of words: with w >> 1 doubled, a word has lost its mark of being reached
+
+decode-when : (w : ℤ) (b : Bool) → ltZ (shrZ w 2 *ℤ pos 2) w ≡ b → decode w ≡ cond b (AtMost (shrZ w 2)) (Below (shrZ w 2))
+decode-when w b e = rw e
+
+odd : (w : ℤ) (b : Bool) → ltZ (shrZ w 2 *ℤ pos 2) w ≡ b → ¬ (shrZ w 2 *ℤ pos 2 ≡ w) → b ≡ true
+odd w true e n = refl
+odd w false e n = absurd (n (omega (arithZ, e, half w, times (shrZ w 2) 2)))
+
+pub decode-odd : (w : ℤ) → ¬ (shrZ w 2 *ℤ pos 2 ≡ w) → decode w ≡ AtMost (shrZ w 2)
+decode-odd w n = decode-when w true (odd w _ refl n)
+
+pub decode-even : (w : ℤ) → shrZ w 2 *ℤ pos 2 ≡ w → decode w ≡ Below (shrZ w 2)
+decode-even w e = decode-when w false (omega (arithZ, e))
+
+reached-sum : (u : ℤ) (m : Limit) → u *ℤ pos 2 +ℤ code m ≡ code (AtMost u ⊕ m)
+unfolding _⊕_
+reached-sum u (AtMost v) = omega (arithZ, times u 2, times v 2, times (u +ℤ v) 2, sum u v, sum (v *ℤ pos 2) (pos 1), sum (u *ℤ pos 2) (v *ℤ pos 2 +ℤ pos 1), sum ((u +ℤ v) *ℤ pos 2) (pos 1))
+reached-sum u (Below v) = omega (arithZ, times u 2, times v 2, times (u +ℤ v) 2, sum u v, sum (u *ℤ pos 2) (v *ℤ pos 2))
+
+below-sum : (u : ℤ) (m : Limit) → u *ℤ pos 2 +ℤ shrZ (code m) 2 *ℤ pos 2 ≡ code (Below u ⊕ m)
+unfolding _⊕_
+below-sum u (AtMost v) = rw (half-odd v) (omega (arithZ, times u 2, times v 2, times (u +ℤ v) 2, sum u v, sum (u *ℤ pos 2) (v *ℤ pos 2)))
+below-sum u (Below v) = rw (half-even v) (omega (arithZ, times u 2, times v 2, times (u +ℤ v) 2, sum u v, sum (u *ℤ pos 2) (v *ℤ pos 2)))
+
+pub sum-odd : (a b : ℤ) → ¬ (shrZ a 2 *ℤ pos 2 ≡ a) → shrZ a 2 *ℤ pos 2 +ℤ b ≡ code (decode a ⊕ decode b)
+sum-odd a b n = rw (decode-odd a n, ← reached-sum (shrZ a 2) (decode b), code-decode b)
+
+pub sum-even : (a b : ℤ) → shrZ a 2 *ℤ pos 2 ≡ a → shrZ a 2 *ℤ pos 2 +ℤ shrZ b 2 *ℤ pos 2 ≡ code (decode a ⊕ decode b)
+sum-even a b e = rw (decode-even a e, ← below-sum (shrZ a 2) (decode b), code-decode b)
+
+-- the lesser limit has the lesser word
+pub lesser-word : (a b : ℤ) (t : Bool) → leZ a b ≡ t → cond t a b ≡ code (lesser (decode a) (decode b))
+unfolding lesser
+lesser-word a b true e = rw (decode-order a b, e, code-decode a)
+lesser-word a b false e = rw (decode-order a b, e, code-decode b)
 
 -- ---- a buffer that was written to
 

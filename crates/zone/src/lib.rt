@@ -34,7 +34,7 @@ pub enum MaybeZone {
     Empty,
 }
 
-// The only sum of machine numbers.
+// The sum of two limits' numbers.
 fn add(a: i32, b: i32) -> i32
     requires { ⌜ (mag a ≤ 4_000_000) × (mag b ≤ 4_000_000) ⌝ }
     ensures { λ r. ⌜ r ≡ a +ℤ b ⌝ }
@@ -57,21 +57,39 @@ fn negative(n: u32) -> i32
     -positive(n)
 }
 
+// The sum of two limits, of their words: it is reached if both are.
+fn sum(a: i32, b: i32) -> i32
+    requires { ⌜ (Small 4_000_000 (decode a)) × (Small 4_000_000 (decode b)) ⌝ }
+    ensures { λ r. ⌜ r ≡ code (decode a ⊕ decode b) ⌝ }
+{
+    let even = (a >> 1) * 2;
+    if even != a {
+        return even + b; // a is reached: the sum is where b is
+    }
+    even + (b >> 1) * 2
+}
+
+// The lesser of two limits, of their words.
+fn lesser(a: i32, b: i32) -> i32
+    ensures { λ r. ⌜ r ≡ code (lesser (decode a) (decode b)) ⌝ }
+{
+    if a <= b { a } else { b }
+}
+
+// The lesser of a limit and the sum of two others, of their words.
+fn or_sum(a: i32, b: i32, c: i32) -> i32
+    requires { ⌜ (Small 4_000_000 (decode b)) × (Small 4_000_000 (decode c)) ⌝ }
+    ensures { λ r. ⌜ r ≡ code (lesser (decode a) (decode b ⊕ decode c)) ⌝ }
+{
+    lesser(a, sum(b, c))
+}
+
 impl Limit {
     fn plus(self, other: Limit) -> Limit
         requires { ⌜ (Small 4_000_000 self) × (Small 4_000_000 other) ⌝ }
         ensures { λ r. ⌜ r ≡ self ⊕ other ⌝ }
     {
-        match self {
-            Limit::AtMost(a) => match other {
-                Limit::AtMost(b) => Limit::AtMost(add(a, b)),
-                Limit::Below(b) => Limit::Below(add(a, b)),
-            },
-            Limit::Below(a) => match other {
-                Limit::AtMost(b) => Limit::Below(add(a, b)),
-                Limit::Below(b) => Limit::Below(add(a, b)),
-            },
-        }
+        Limit::of_word(sum(self.word(), other.word()))
     }
 
     fn at_most(self, other: Limit) -> bool
@@ -90,26 +108,27 @@ impl Limit {
     }
 
     fn lesser(self, other: Limit) -> Limit
+        requires { ⌜ (Small 4_000_000 self) × (Small 4_000_000 other) ⌝ }
         ensures { λ r. ⌜ r ≡ lesser self other ⌝ }
     {
-        if self.at_most(other) { self } else { other }
+        Limit::of_word(lesser(self.word(), other.word()))
     }
 
     // The lesser of this limit and the sum of two others.
     fn or_sum(self, a: Limit, b: Limit) -> Limit
-        requires { ⌜ (Small 4_000_000 a) × (Small 4_000_000 b) ⌝ }
+        requires { ⌜ (Small 4_000_000 self) × (Small 4_000_000 a) × (Small 4_000_000 b) ⌝ }
         ensures { λ r. ⌜ r ≡ lesser self (a ⊕ b) ⌝ }
     {
-        self.lesser(a.plus(b))
+        Limit::of_word(or_sum(self.word(), a.word(), b.word()))
     }
 
-    // Whether this limit and the one on the negated quantity leave room between them: on the words, of which it takes
-    // the least work.
+    // Whether this limit and the one on the negated quantity leave room between them: whether their words come to 2. In a
+    // loop over this limit the other's side is found once.
     fn leaves_room(self, negated: Limit) -> bool
         requires { ⌜ (Small 4_000_000 self) × (Small 4_000_000 negated) ⌝ }
         ensures { λ r. ⌜ r ≡ at-most nought (self ⊕ negated) ⌝ }
     {
-        2 <= self.word() + negated.word()
+        2 - negated.word() <= self.word()
     }
 
     // The word of a limit: twice its number, and one more where it is reached.
@@ -128,7 +147,7 @@ impl Limit {
         ensures { λ r. ⌜ r ≡ decode w ⌝ }
     {
         let h = w >> 1;
-        if h * 2 < w {
+        if h * 2 != w {
             Limit::AtMost(h)
         } else {
             Limit::Below(h)
@@ -184,6 +203,7 @@ impl Zone {
 
     // The lesser limit on each side.
     fn both(self, other: Zone) -> Zone
+        requires { ⌜ (Ranged 1_000_000 self) × (Ranged 1_000_000 other) ⌝ }
         ensures { λ r. ⌜ r ≡ both self other ⌝ }
     {
         let s = self.start;
@@ -216,7 +236,7 @@ impl Zone {
     {
         let starts = self.start;
         let other_nstarts = other.nstart;
-        if !starts.leaves_room(other_nstarts) {
+        if !other_nstarts.leaves_room(starts) {
             return MaybeZone::Empty;
         }
         let nstarts = self.nstart;
@@ -267,7 +287,7 @@ impl Zone {
         }
         let nends = self.nend;
         let starts = other.start;
-        if !nends.leaves_room(starts) {
+        if !starts.leaves_room(nends) {
             return MaybeZone::Empty;
         }
         MaybeZone::Zone(self.joined(other))
@@ -363,6 +383,7 @@ impl Zone {
 
     // This zone with two limits more, on end − start and on start − end.
     fn limited(self, longest: Limit, shortest: Limit) -> Zone
+        requires { ⌜ (Ranged 1_000_000 self) × (Small 1_000_000 longest) × (Small 1_000_000 shortest) ⌝ }
         ensures { λ r. ⌜ r ≡ limited self longest shortest ⌝ }
     {
         let s = self.start;
@@ -433,6 +454,19 @@ pub fn write_zone(words: &mut [i32], at: usize, z: Zone)
     words[at + 3] = ne.word();
     words[at + 4] = l.word();
     words[at + 5] = nl.word();
+}
+
+// Copies the zone whose words stand from `i` on in `from`; all other words stay as they were.
+pub fn copy_zone(words: &mut [i32], at: usize, from: &[i32], i: usize)
+    requires { ⌜ (at + 6 ≤ length (now words)) × (i + 6 ≤ length (now from)) ⌝ }
+    ensures { λ _. ⌜ now (words .exit) ≡ overwrite (now (words .entry)) at (codes (zoneAt (now (from .entry)) i)) ⌝ }
+{
+    words[at] = from[i];
+    words[at + 1] = from[i + 1];
+    words[at + 2] = from[i + 2];
+    words[at + 3] = from[i + 3];
+    words[at + 4] = from[i + 4];
+    words[at + 5] = from[i + 5];
 }
 
 // Whether the limit of one word is at most that of another: the order of words is that of limits, so nothing is decoded.

@@ -44,19 +44,19 @@ loop-less c = omega arith
 loop-again : tie.Need-loop-again Inv-loop μ-loop
 loop-again c = (omega arith, going-past (going-next _ _ _ (c .before .before .before .before .before .loop-test .taken) (c .before .before .before .before .before .before .before .pre .0 .few) (c .before .before .before .before .before .before .before .pre .2) (c .before .before .before .read-zone .ensures) (apply (c .before .before .before .before .before .before .before .args .op) (c .before .before .before .before .before .before .before .args .z)) (c .before .before .before .before .before .before .loop .inv .1) (sym (c .before .before .apply .ensures) ∙ c .enum-told .given .1)))
 
-grow-requires : tie.Need-grow-requires Inv-loop μ-loop
-grow-requires c κs = (
+grow-by-requires : tie.Need-grow-by-requires Inv-loop μ-loop
+grow-by-requires c κs = (
   still-slot (c .before .before .before .before .before .before .before .before .before .pre .1) (c .before .before .before .before .before .before .before .before .loop .inv .1 .frame) (c .before .before .before .before .before .before .before .before .loop .inv .1 .few),
   ranged (apply-sound (c .before .before .before .before .before .before .before .before .before .args .op) (c .before .before .before .before .before .before .before .before .before .args .z) (c .before .before .before .before .before .read-zone .result) (c .before .before .before .before .before .before .before .before .before .pre .3) (sound-there _ _ _ (c .before .before .before .before .before .before .before .before .before .pre .0) (c .before .before .before .before .before .before .before .before .loop .inv .1 .frame) (c .before .before .before .before .before .before .before .before .before .pre .2) (c .before .before .before .before .before .before .before .loop-test .taken) (c .before .before .before .before .before .read-zone .ensures)) (sym (c .before .before .before .before .apply .ensures) ∙ c .before .before .v .given .1)),
 )
 
 same-length : tie.Need-same-length Inv-loop μ-loop
-same-length c = c .before .before .before .grow .ensures .1 .same-length ∙ c .before .before .before .before .before .before .before .before .before .before .before .before .loop .inv .1 .frame .same-length
+same-length c = c .before .before .before .grow-by .ensures .1 .same-length ∙ c .before .before .before .before .before .before .before .before .before .before .before .before .loop .inv .1 .frame .same-length
 
 returns : tie.Need-returns Inv-loop μ-loop
 returns c =
     let g = going-next _ _ _ (c .before .before .before .before .before .before .before .before .before .before .before .loop-test .taken) (c .before .before .before .before .before .before .before .before .before .before .before .before .before .pre .0 .few) (c .before .before .before .before .before .before .before .before .before .before .before .before .before .pre .2) (c .before .before .before .before .before .before .before .before .before .read-zone .ensures) (apply (c .before .before .before .before .before .before .before .before .before .before .before .before .before .args .op) (c .before .before .before .before .before .before .before .before .before .before .before .before .before .args .z)) (c .before .before .before .before .before .before .before .before .before .before .before .before .loop .inv .1) (sym (c .before .before .before .before .before .before .before .before .apply .ensures) ∙ c .before .before .before .before .before .before .v .given .1) in
-    (going-over (zone (c .before .before .before .before .before .before .v .given .0 .0) ∷ []) _ g (rw (c .enum-told2 .given .1) at (c .before .before .before .grow .ensures .0)), kept-trans (c .before .before .before .before .before .before .before .before .before .before .before .before .loop .inv .1 .frame) (c .before .before .before .grow .ensures .1))
+    (going-over (zone (c .before .before .before .before .before .before .v .given .0 .0) ∷ []) _ g (rw (c .enum-told2 .given .1) at (c .before .before .before .grow-by .ensures .0)), kept-trans (c .before .before .before .before .before .before .before .before .before .before .before .before .loop .inv .1 .frame) (c .before .before .before .grow-by .ensures .1))
 
 loop-less-2 : tie.Need-loop-less-2 Inv-loop μ-loop
 loop-less-2 c = omega arith
@@ -64,7 +64,7 @@ loop-less-2 c = omega arith
 loop-again-2 : tie.Need-loop-again-2 Inv-loop μ-loop
 loop-again-2 c =
     let g = going-next _ _ _ (c .before .before .before .before .before .before .before .before .before .before .before .before .loop-test .taken) (c .before .before .before .before .before .before .before .before .before .before .before .before .before .before .pre .0 .few) (c .before .before .before .before .before .before .before .before .before .before .before .before .before .before .pre .2) (c .before .before .before .before .before .before .before .before .before .before .read-zone .ensures) (apply (c .before .before .before .before .before .before .before .before .before .before .before .before .before .before .args .op) (c .before .before .before .before .before .before .before .before .before .before .before .before .before .before .args .z)) (c .before .before .before .before .before .before .before .before .before .before .before .before .before .loop .inv .1) (sym (c .before .before .before .before .before .before .before .before .before .apply .ensures) ∙ c .before .before .before .before .before .before .before .v .given .1) in
-    (omega arith, going-on (zone (c .before .before .before .before .before .before .before .v .given .0 .0) ∷ []) _ g (rw (c .before .k .given .1) at (c .before .before .before .before .grow .ensures .0)) (c .before .before .before .before .grow .ensures .1))
+    (omega arith, going-on (zone (c .before .before .before .before .before .before .before .v .given .0 .0) ∷ []) _ g (rw (c .before .k .given .1) at (c .before .before .before .before .grow-by .ensures .0)) (c .before .before .before .before .grow-by .ensures .1))
 
 same-length-2 : tie.Need-same-length-2 Inv-loop μ-loop
 same-length-2 c = c .before .loop .inv .1 .frame .same-length
@@ -75,4 +75,4 @@ returns-2 c = (going-end (ap (map (apply (c .before .before .args .op) (c .befor
 pub each-right-spec : {M : Type 1} → statement M
 each-right-spec =
     tie.close
-    (tie.spec Inv-loop μ-loop loop-holds mul-read-zone add-read-zone read-zone-requires add-j apply-requires (λ c. search needs) (λ c. search needs) loop-less loop-again grow-requires (λ c. search needs) (λ c. search needs) same-length returns loop-less-2 loop-again-2 same-length-2 returns-2)
+    (tie.spec Inv-loop μ-loop loop-holds mul-read-zone add-read-zone read-zone-requires add-j apply-requires (λ c. search needs) (λ c. search needs) loop-less loop-again grow-by-requires (λ c. search needs) (λ c. search needs) same-length returns loop-less-2 loop-again-2 same-length-2 returns-2)

@@ -1,3 +1,4 @@
+use Rattle.zone.specs.Words.{zoneAt}
 use Rattle.list.proofs.Puts.{grown, grown-kept}
 use Rattle.list.specs.declared.Inserted.the-variants.{Away, Placed, Full}
 use borrow.Author.Needs.{needs}
@@ -6,18 +7,24 @@ use Rattle.list.proofs.grow.Tie as tie
 
 returns : tie.Need-returns
 returns c =
-    let a = rw (c .enum-told .given .1) at (c .before .before .before .insert .ensures) in
-    (grown (c .before .before .before .before .before .args .z) _ _ _ _ (c .before .before .before .before .before .args .changed) (c .before .before .before .before .before .pre .0 .few) Away a, grown-kept (c .before .before .before .before .before .args .z) _ _ _ _ (c .before .before .before .before .before .args .changed) (c .before .before .before .before .before .pre .0 .few) Away a)
+    let z = zoneAt (c .before .before .before .before .before .args .w .now) 0 in
+    let few = c .before .before .before .before .before .pre .0 .few in
+    let a = rw (c .enum-told .given .1) at (c .before .before .before .insert-words .ensures) in
+    (grown z _ _ _ _ (c .before .before .before .before .before .args .changed) few Away a, grown-kept z _ _ _ _ (c .before .before .before .before .before .args .changed) few Away a)
 
 returns-2 : tie.Need-returns-2
 returns-2 c =
-    let a = rw (c .before .n .given .1) at (c .before .before .before .before .insert .ensures) in
-    (grown (c .before .before .before .before .before .before .args .z) _ _ _ _ (c .before .before .before .before .before .before .args .changed) (c .before .before .before .before .before .before .pre .0 .few) (Placed (c .before .n .given .0 .0)) a, grown-kept (c .before .before .before .before .before .before .args .z) _ _ _ _ (c .before .before .before .before .before .before .args .changed) (c .before .before .before .before .before .before .pre .0 .few) (Placed (c .before .n .given .0 .0)) a)
+    let z = zoneAt (c .before .before .before .before .before .before .args .w .now) 0 in
+    let few = c .before .before .before .before .before .before .pre .0 .few in
+    let a = rw (c .before .n .given .1) at (c .before .before .before .before .insert-words .ensures) in
+    (grown z _ _ _ _ (c .before .before .before .before .before .before .args .changed) few (Placed (c .before .n .given .0 .0)) a, grown-kept z _ _ _ _ (c .before .before .before .before .before .before .args .changed) few (Placed (c .before .n .given .0 .0)) a)
 
 returns-3 : tie.Need-returns-3
 returns-3 c =
-    let a = rw (c .enum-told2 .given .1) at (c .before .before .before .insert .ensures) in
-    (grown (c .before .before .before .before .before .args .z) _ _ _ _ (c .before .before .before .before .before .args .changed) (c .before .before .before .before .before .pre .0 .few) Full a, grown-kept (c .before .before .before .before .before .args .z) _ _ _ _ (c .before .before .before .before .before .args .changed) (c .before .before .before .before .before .pre .0 .few) Full a)
+    let z = zoneAt (c .before .before .before .before .before .args .w .now) 0 in
+    let few = c .before .before .before .before .before .pre .0 .few in
+    let a = rw (c .enum-told2 .given .1) at (c .before .before .before .insert-words .ensures) in
+    (grown z _ _ _ _ (c .before .before .before .before .before .args .changed) few Full a, grown-kept z _ _ _ _ (c .before .before .before .before .before .args .changed) few Full a)
 
 pub grow-spec : {M : Type 1} → statement M
 grow-spec =

@@ -1,14 +1,15 @@
-use Rattle.list.proofs.Slots.{list-there, listAt-copied, still-source}
-use Rattle.list.proofs.Answers.{copy-kept, copy-order, kept-one, both-trans, brought, ending-room, ending-apart, star-no-room, star-closed}
-use Rattle.list.specs.Slots.{listAt, Sound, KeptBoth}
-use Rattle.list.specs.Star.{Rounds, finished, burst, over-round}
+use mathlib.Core.List.{List}
+use mathlib.Core.Logic.{_⊎_, inl, inr, ⊎-map}
+use mathlib.Core.Path.{_≡_, sym, subst, _∙_}
+use native.Mathlib.Omega.{arith}
 use Rattle.zone.proofs.Laws.{ranged, ranged-more, proper-diagonal}
 use Rattle.zone.specs.Zone.{diagonal}
 use Rattle.zone.specs.declared.Zone.{Zone}
-use mathlib.Core.List.{List}
-use native.Mathlib.Omega.{arith}
-use mathlib.Core.Logic.{_⊎_, inl, inr, ⊎-map}
-use mathlib.Core.Path.{_≡_, sym, subst, _∙_}
+use Rattle.list.specs.Slots.{listAt, Sound, KeptBoth}
+use Rattle.list.specs.Star.{Rounds, finished, burst, over-round}
+use Rattle.list.proofs.Answers.{copy-kept, copy-order, kept-one, both-trans, brought, ending-room, ending-apart, star-no-room, star-closed}
+use Rattle.list.proofs.Puts.{held}
+use Rattle.list.proofs.Slots.{list-there, listAt-copied, still-source}
 use borrow.Author.Needs.{needs}
 use Rattle.list.proofs.star.Statement.{statement}
 use Rattle.list.proofs.star.Tie as tie
@@ -38,7 +39,6 @@ returns c =
 bring-requires : tie.Need-bring-requires
 bring-requires c κs =
     let f = copy-kept (c .before .before .before .before .before .before .before .before .before .before .pre .0 .few) (c .before .before .before .before .before .before .before .before .copy-words .ensures) in
-    let same = list-there (c .before .before .before .before .before .before .before .before .before .before .args .inner) (c .before .before .before .before .before .before .before .before .before .before .args .m) f (c .before .before .before .before .before .before .before .before .before .before .pre .3) (c .before .before .before .before .before .before .before .before .before .before .pre .0 .few) in
     let w = rw (c .before .before .at .given .1) at (c .before .before .before .before .before .all-rounds .ensures .0) in (
       w .holds .few,
       ending-room (w .place) (omega (arith, f .same-length, c .before .before .before .before .before .all-rounds .ensures .1 .same-length)) (omega (arith, f .same-length, c .before .before .before .before .before .all-rounds .ensures .1 .same-length)),
@@ -49,35 +49,43 @@ bring-requires c κs =
 diagonal-requires : tie.Need-diagonal-requires
 diagonal-requires c κs = (omega arith, omega arith)
 
+write-zone-requires : tie.Need-write-zone-requires
+write-zone-requires c κs = (omega arith, rw (c .diagonal .ensures) (ranged-more (c .before .before .before .before .before .before .before .before .before .before .before .before .before .before .pre .7) (ranged (proper-diagonal _ _ (c .before .before .before .before .before .before .before .before .before .before .before .before .before .before .pre .6)))))
+
 grow-requires : tie.Need-grow-requires
 grow-requires c κs =
-    let f = copy-kept (c .before .before .before .before .before .before .before .before .before .before .before .before .before .before .pre .0 .few) (c .before .before .before .before .before .before .before .before .before .before .before .before .copy-words .ensures) in
-    let w = rw (c .before .before .before .before .before .before .at .given .1) at (c .before .before .before .before .before .before .before .before .before .all-rounds .ensures .0) in (
-      record { few = w .holds .few; room = omega (arith, f .same-length, c .before .before .before .before .before .before .before .before .before .all-rounds .ensures .1 .same-length, c .before .before .before .bring .ensures .1 .same-length, c .before .before .before .before .before .before .before .before .before .before .before .before .before .before .pre .1) },
-      rw (c .diagonal .ensures) (ranged-more (c .before .before .before .before .before .before .before .before .before .before .before .before .before .before .pre .7) (ranged (proper-diagonal _ _ (c .before .before .before .before .before .before .before .before .before .before .before .before .before .before .pre .6)))),
+    let f = copy-kept (c .before .before .before .before .before .before .before .before .before .before .before .before .before .before .before .before .before .before .pre .0 .few) (c .before .before .before .before .before .before .before .before .before .before .before .before .before .before .before .before .copy-words .ensures) in
+    let w = rw (c .before .before .before .before .before .before .before .before .before .before .at .given .1) at (c .before .before .before .before .before .before .before .before .before .before .before .before .before .all-rounds .ensures .0) in (
+      record { few = w .holds .few; room = omega (arith, f .same-length, c .before .before .before .before .before .before .before .before .before .before .before .before .before .all-rounds .ensures .1 .same-length, c .before .before .before .before .before .before .before .bring .ensures .1 .same-length, c .before .before .before .before .before .before .before .before .before .before .before .before .before .before .before .before .before .before .pre .1) },
+      omega arith,
     )
 
 returns-2 : tie.Need-returns-2
 returns-2 c =
-    let f = copy-kept (c .before .before .before .before .before .before .before .before .before .before .before .before .before .before .before .before .before .before .pre .0 .few) (c .before .before .before .before .before .before .before .before .before .before .before .before .before .before .before .before .copy-words .ensures) in
-    let same = list-there (c .before .before .before .before .before .before .before .before .before .before .before .before .before .before .before .before .before .before .args .inner) (c .before .before .before .before .before .before .before .before .before .before .before .before .before .before .before .before .before .before .args .m) f (c .before .before .before .before .before .before .before .before .before .before .before .before .before .before .before .before .before .before .pre .3) (c .before .before .before .before .before .before .before .before .before .before .before .before .before .before .before .before .before .before .pre .0 .few) in
-    let w = rw (c .before .before .before .before .before .before .before .before .before .before .at .given .1) at (c .before .before .before .before .before .before .before .before .before .before .before .before .before .all-rounds .ensures .0) in
-    let r = subst (λ (I : List Zone). Rounds I I (finished (c .before .before .before .before .before .before .before .before .before .before .at .given .0 .1 .1 .0) (w .list))) same (w .value) in
-    let h = brought (w .holds) (c .before .before .before .before .before .before .before .bring .ensures .0) in
-    let k = both-trans (kept-one f) (both-trans (c .before .before .before .before .before .before .before .before .before .before .before .before .before .all-rounds .ensures .1) (both-trans (kept-one (c .before .before .before .before .before .before .before .bring .ensures .1)) (kept-one (c .before .before .before .grow .ensures .1)))) in
-    (star-no-room (diagonal (c .before .before .before .before .before .before .before .before .before .before .before .before .before .before .before .before .before .before .args .from) (c .before .before .before .before .before .before .before .before .before .before .before .before .before .before .before .before .before .before .args .to)) r _ _ _ h (rw (c .before .before .before .before .diagonal .ensures, c .enum-told2 .given .1) at (c .before .before .before .grow .ensures .0)), k)
+    let f = copy-kept (c .before .before .before .before .before .before .before .before .before .before .before .before .before .before .before .before .before .before .before .before .before .before .pre .0 .few) (c .before .before .before .before .before .before .before .before .before .before .before .before .before .before .before .before .before .before .before .before .copy-words .ensures) in
+    let same = list-there (c .before .before .before .before .before .before .before .before .before .before .before .before .before .before .before .before .before .before .before .before .before .before .args .inner) (c .before .before .before .before .before .before .before .before .before .before .before .before .before .before .before .before .before .before .before .before .before .before .args .m) f (c .before .before .before .before .before .before .before .before .before .before .before .before .before .before .before .before .before .before .before .before .before .before .pre .3) (c .before .before .before .before .before .before .before .before .before .before .before .before .before .before .before .before .before .before .before .before .before .before .pre .0 .few) in
+    let w = rw (c .before .before .before .before .before .before .before .before .before .before .before .before .before .before .at .given .1) at (c .before .before .before .before .before .before .before .before .before .before .before .before .before .before .before .before .before .all-rounds .ensures .0) in
+    let r = subst (λ (I : List Zone). Rounds I I (finished (c .before .before .before .before .before .before .before .before .before .before .before .before .before .before .at .given .0 .1 .1 .0) (w .list))) same (w .value) in
+    let h = brought (w .holds) (c .before .before .before .before .before .before .before .before .before .before .before .bring .ensures .0) in
+    let k = both-trans (kept-one f) (both-trans (c .before .before .before .before .before .before .before .before .before .before .before .before .before .before .before .before .before .all-rounds .ensures .1) (both-trans (kept-one (c .before .before .before .before .before .before .before .before .before .before .before .bring .ensures .1)) (kept-one (c .before .before .before .grow .ensures .1)))) in
+    let d = held (diagonal (c .before .before .before .before .before .before .before .before .before .before .before .before .before .before .before .before .before .before .before .before .before .before .args .from) (c .before .before .before .before .before .before .before .before .before .before .before .before .before .before .before .before .before .before .before .before .before .before .args .to)) _ (rw (c .before .before .before .before .before .before .before .before .diagonal .ensures) at (c .before .before .before .before .before .before .before .write-zone .ensures)) (omega arith) in
+    (star-no-room (diagonal (c .before .before .before .before .before .before .before .before .before .before .before .before .before .before .before .before .before .before .before .before .before .before .args .from) (c .before .before .before .before .before .before .before .before .before .before .before .before .before .before .before .before .before .before .before .before .before .before .args .to)) r _ _ _ h (rw (d, c .enum-told2 .given .1) at (c .before .before .before .grow .ensures .0)), k)
+
+same-length-3 : tie.Need-same-length-3
+same-length-3 c = c .before .before .before .before .grow .ensures .1 .same-length ∙ c .before .before .before .before .before .before .before .before .before .before .before .before .bring .ensures .1 .same-length ∙ c .before .before .before .before .before .before .before .before .before .before .before .before .before .before .before .before .before .before .all-rounds .ensures .1 .same-length ∙ copy-kept (c .before .before .before .before .before .before .before .before .before .before .before .before .before .before .before .before .before .before .before .before .before .before .before .pre .0 .few) (c .before .before .before .before .before .before .before .before .before .before .before .before .before .before .before .before .before .before .before .before .before .copy-words .ensures) .same-length
 
 returns-3 : tie.Need-returns-3
 returns-3 c =
-    let f = copy-kept (c .before .before .before .before .before .before .before .before .before .before .before .before .before .before .before .before .before .before .before .pre .0 .few) (c .before .before .before .before .before .before .before .before .before .before .before .before .before .before .before .before .before .copy-words .ensures) in
-    let same = list-there (c .before .before .before .before .before .before .before .before .before .before .before .before .before .before .before .before .before .before .before .args .inner) (c .before .before .before .before .before .before .before .before .before .before .before .before .before .before .before .before .before .before .before .args .m) f (c .before .before .before .before .before .before .before .before .before .before .before .before .before .before .before .before .before .before .before .pre .3) (c .before .before .before .before .before .before .before .before .before .before .before .before .before .before .before .before .before .before .before .pre .0 .few) in
-    let w = rw (c .before .before .before .before .before .before .before .before .before .before .before .at .given .1) at (c .before .before .before .before .before .before .before .before .before .before .before .before .before .before .all-rounds .ensures .0) in
-    let r = subst (λ (I : List Zone). Rounds I I (finished (c .before .before .before .before .before .before .before .before .before .before .before .at .given .0 .1 .1 .0) (w .list))) same (w .value) in
-    let h = brought (w .holds) (c .before .before .before .before .before .before .before .before .bring .ensures .0) in
-    let k = both-trans (kept-one f) (both-trans (c .before .before .before .before .before .before .before .before .before .before .before .before .before .before .all-rounds .ensures .1) (both-trans (kept-one (c .before .before .before .before .before .before .before .before .bring .ensures .1)) (kept-one (c .before .before .before .before .grow .ensures .1)))) in
-    (star-closed (diagonal (c .before .before .before .before .before .before .before .before .before .before .before .before .before .before .before .before .before .before .before .args .from) (c .before .before .before .before .before .before .before .before .before .before .before .before .before .before .before .before .before .before .before .args .to)) r _ _ _ h (rw (c .before .before .before .before .before .diagonal .ensures, c .before .count .given .1) at (c .before .before .before .before .grow .ensures .0)), k)
+    let f = copy-kept (c .before .before .before .before .before .before .before .before .before .before .before .before .before .before .before .before .before .before .before .before .before .before .before .pre .0 .few) (c .before .before .before .before .before .before .before .before .before .before .before .before .before .before .before .before .before .before .before .before .before .copy-words .ensures) in
+    let same = list-there (c .before .before .before .before .before .before .before .before .before .before .before .before .before .before .before .before .before .before .before .before .before .before .before .args .inner) (c .before .before .before .before .before .before .before .before .before .before .before .before .before .before .before .before .before .before .before .before .before .before .before .args .m) f (c .before .before .before .before .before .before .before .before .before .before .before .before .before .before .before .before .before .before .before .before .before .before .before .pre .3) (c .before .before .before .before .before .before .before .before .before .before .before .before .before .before .before .before .before .before .before .before .before .before .before .pre .0 .few) in
+    let w = rw (c .before .before .before .before .before .before .before .before .before .before .before .before .before .before .before .at .given .1) at (c .before .before .before .before .before .before .before .before .before .before .before .before .before .before .before .before .before .before .all-rounds .ensures .0) in
+    let r = subst (λ (I : List Zone). Rounds I I (finished (c .before .before .before .before .before .before .before .before .before .before .before .before .before .before .before .at .given .0 .1 .1 .0) (w .list))) same (w .value) in
+    let h = brought (w .holds) (c .before .before .before .before .before .before .before .before .before .before .before .before .bring .ensures .0) in
+    let k = both-trans (kept-one f) (both-trans (c .before .before .before .before .before .before .before .before .before .before .before .before .before .before .before .before .before .before .all-rounds .ensures .1) (both-trans (kept-one (c .before .before .before .before .before .before .before .before .before .before .before .before .bring .ensures .1)) (kept-one (c .before .before .before .before .grow .ensures .1)))) in
+    let d = held (diagonal (c .before .before .before .before .before .before .before .before .before .before .before .before .before .before .before .before .before .before .before .before .before .before .before .args .from) (c .before .before .before .before .before .before .before .before .before .before .before .before .before .before .before .before .before .before .before .before .before .before .before .args .to)) _ (rw (c .before .before .before .before .before .before .before .before .before .diagonal .ensures) at (c .before .before .before .before .before .before .before .before .write-zone .ensures)) (omega arith) in
+    (star-closed (diagonal (c .before .before .before .before .before .before .before .before .before .before .before .before .before .before .before .before .before .before .before .before .before .before .before .args .from) (c .before .before .before .before .before .before .before .before .before .before .before .before .before .before .before .before .before .before .before .before .before .before .before .args .to)) r _ _ _ h (rw (d, c .before .count .given .1) at (c .before .before .before .before .grow .ensures .0)), k)
 
 pub star-spec : {M : Type 1} → statement M
 star-spec =
     tie.close
-    (tie.spec (λ c. search needs) copy-words-requires all-rounds-requires (λ c. search needs) (λ c. search needs) (λ c. search needs) returns bring-requires diagonal-requires grow-requires (λ c. search needs) (λ c. search needs) (λ c. search needs) returns-2 (λ c. search needs) returns-3)
+    (tie.spec (λ c. search needs) copy-words-requires all-rounds-requires (λ c. search needs) (λ c. search needs) (λ c. search needs) returns bring-requires (λ c. search needs) diagonal-requires write-zone-requires (λ c. search needs) grow-requires (λ c. search needs) (λ c. search needs) (λ c. search needs) returns-2 same-length-3 returns-3)

@@ -1,15 +1,11 @@
-use Rattle.zone.specs.Limit.{lesser}
+use mathlib.Core.Path.{_∙_}
+use Rattle.zone.proofs.Signed.{lesser-kept}
 use borrow.Author.Needs.{needs}
 use Rattle.zone.proofs.Limit.lesser.Statement.{statement}
 use Rattle.zone.proofs.Limit.lesser.Tie as tie
 
 returns : tie.Need-returns
-unfolding lesser
-returns c = rw (← c .before .at-most .ensures, c .if1 .taken)
-
-returns-2 : tie.Need-returns-2
-unfolding lesser
-returns-2 c = rw (← c .before .at-most .ensures, c .if1 .left)
+returns c = c .of-word .ensures ∙ lesser-kept (c .before .before .before .before .args .self) (c .before .before .before .before .args .other) (search needs) (search needs) (search needs) (c .before .before .before .word .ensures) (c .before .before .word2 .ensures) (c .before .lesser .ensures)
 
 pub lesser-spec : {M : Type 1} → statement M
-lesser-spec = tie.close (tie.spec (λ c κs. search needs) returns returns-2)
+lesser-spec = tie.close (tie.spec (λ c κs. search needs) (λ c κs. search needs) (λ c κs. search needs) (λ c κs. search needs) returns)

@@ -1,38 +1,14 @@
-use Rattle.zone.proofs.Signed.{sum-back}
-use Rattle.zone.specs.Limit.{_⊕_}
+use mathlib.Core.Path.{_∙_}
+use Rattle.zone.proofs.Signed.{small-kept, sum-kept}
 use borrow.Author.Needs.{needs}
 use Rattle.zone.proofs.Limit.plus.Statement.{statement}
 use Rattle.zone.proofs.Limit.plus.Tie as tie
 
-add-requires : tie.Need-add-requires
-add-requires c κs = let p = rw (c .before .before .before .before .self .given .1) at (c .before .before .before .before .before .before .pre .0) in let q = rw (c .before .other .given .1) at (c .before .before .before .before .before .before .pre .1) in search needs
-
-add-requires-2 : tie.Need-add-requires-2
-add-requires-2 c κs = let p = rw (c .before .before .before .before .self .given .1) at (c .before .before .before .before .before .before .pre .0) in let q = rw (c .before .other2 .given .1) at (c .before .before .before .before .before .before .pre .1) in search needs
-
-add-requires-3 : tie.Need-add-requires-3
-add-requires-3 c κs = let p = rw (c .before .before .before .before .self2 .given .1) at (c .before .before .before .before .before .before .pre .0) in let q = rw (c .before .other3 .given .1) at (c .before .before .before .before .before .before .pre .1) in search needs
-
-add-requires-4 : tie.Need-add-requires-4
-add-requires-4 c κs = let p = rw (c .before .before .before .before .self2 .given .1) at (c .before .before .before .before .before .before .pre .0) in let q = rw (c .before .other4 .given .1) at (c .before .before .before .before .before .before .pre .1) in search needs
+sum-requires : tie.Need-sum-requires
+sum-requires c κs = (small-kept (c .before .before .args .self) (search needs) (c .before .word .ensures) (c .before .before .pre .0), small-kept (c .before .before .args .other) (search needs) (c .word2 .ensures) (c .before .before .pre .1))
 
 returns : tie.Need-returns
-unfolding _⊕_
-returns c = rw (c .before .before .before .before .before .self .given .1, c .before .before .other .given .1) (search (needs, sum-back))
-
-returns-2 : tie.Need-returns-2
-unfolding _⊕_
-returns-2 c = rw (c .before .before .before .before .before .self .given .1, c .before .before .other2 .given .1) (search (needs, sum-back))
-
-returns-3 : tie.Need-returns-3
-unfolding _⊕_
-returns-3 c = rw (c .before .before .before .before .before .self2 .given .1, c .before .before .other3 .given .1) (search (needs, sum-back))
-
-returns-4 : tie.Need-returns-4
-unfolding _⊕_
-returns-4 c = rw (c .before .before .before .before .before .self2 .given .1, c .before .before .other4 .given .1) (search (needs, sum-back))
+returns c = c .of-word .ensures ∙ sum-kept (c .before .before .before .before .args .self) (c .before .before .before .before .args .other) (search needs) (search needs) (search needs) (c .before .before .before .word .ensures) (c .before .before .word2 .ensures) (c .before .sum .ensures)
 
 pub plus-spec : {M : Type 1} → statement M
-plus-spec =
-    tie.close
-    (tie.spec (λ c. search needs) (λ c. search needs) add-requires (λ c. search needs) add-requires-2 (λ c. search needs) (λ c. search needs) add-requires-3 (λ c. search needs) add-requires-4 returns returns-2 returns-3 returns-4)
+plus-spec = tie.close (tie.spec (λ c κs. search needs) (λ c κs. search needs) sum-requires (λ c κs. search needs) returns)

@@ -1,6 +1,8 @@
 use Rattle.zone.proofs.Steps.{no-room, has-room}
 use Rattle.zone.specs.Zone.{zone, empty, compose, joined, where-room}
 use mathlib.Core.Path.{_≡_, ap, _∙_}
+use Rattle.zone.specs.Limit.{at-most, nought}
+use Rattle.zone.proofs.Order.{⊕-comm}
 use Rattle.zone.proofs.Means.{compose-means}
 use borrow.Author.Needs.{needs}
 use Rattle.zone.proofs.Zone.compose.Statement.{statement}
@@ -19,7 +21,7 @@ unfolding compose
 returns-2 c =
     let z = c .before .before .before .before .args .self in
     let w = c .before .before .before .before .args .other in
-    let v : empty ≡ compose z w = no-room _ _ (zone (joined z w)) (c .before .leaves-room2 .ensures) (c .if2 .taken) ∙ has-room _ _ (where-room (z .nend) (w .start) (zone (joined z w))) (c .before .before .before .leaves-room .ensures) (c .before .before .if1 .left) in
+    let v : empty ≡ compose z w = no-room _ _ (zone (joined z w)) (c .before .leaves-room2 .ensures ∙ ap (at-most nought) (⊕-comm _ _)) (c .if2 .taken) ∙ has-room _ _ (where-room (z .nend) (w .start) (zone (joined z w))) (c .before .before .before .leaves-room .ensures) (c .before .before .if1 .left) in
     (v, compose-means z w v)
 
 returns-3 : tie.Need-returns-3
@@ -27,7 +29,7 @@ unfolding compose
 returns-3 c =
     let z = c .before .before .before .before .before .args .self in
     let w = c .before .before .before .before .before .args .other in
-    let v : zone (c .joined .result) ≡ compose z w = ap zone (c .joined .ensures) ∙ has-room _ _ (zone (joined z w)) (c .before .before .leaves-room2 .ensures) (c .before .if2 .left) ∙ has-room _ _ (where-room (z .nend) (w .start) (zone (joined z w))) (c .before .before .before .before .leaves-room .ensures) (c .before .before .before .if1 .left) in
+    let v : zone (c .joined .result) ≡ compose z w = ap zone (c .joined .ensures) ∙ has-room _ _ (zone (joined z w)) (c .before .before .leaves-room2 .ensures ∙ ap (at-most nought) (⊕-comm _ _)) (c .before .if2 .left) ∙ has-room _ _ (where-room (z .nend) (w .start) (zone (joined z w))) (c .before .before .before .before .leaves-room .ensures) (c .before .before .before .if1 .left) in
     (v, compose-means z w v)
 
 pub compose-spec : {M : Type 1} → statement M

@@ -1,9 +1,17 @@
 use Rattle.zone.specs.Zone.{joined}
 use Rattle.zone.specs.Limit.{Limit, lesser, _⊕_}
+use Rattle.zone.proofs.Ranges.{small-sum}
 use mathlib.Core.Path.{ap, _∙_}
+use native.Mathlib.Omega.{arith}
 use borrow.Author.Needs.{needs}
 use Rattle.zone.proofs.Zone.joined.Statement.{statement}
 use Rattle.zone.proofs.Zone.joined.Tie as tie
+
+or-sum-requires-5 : tie.Need-or-sum-requires-5
+or-sum-requires-5 c κs = (rw (c .plus .ensures) (omega (arith, small-sum (c .before .before .before .before .before .args .other .length) (c .before .before .before .before .before .args .self .length) (c .before .before .before .before .before .pre .1 .length) (c .before .before .before .before .before .pre .0 .length))), omega (arith, c .before .before .before .before .before .pre .1 .end), omega (arith, c .before .before .before .before .before .pre .0 .nstart))
+
+or-sum-requires-6 : tie.Need-or-sum-requires-6
+or-sum-requires-6 c κs = (rw (c .plus2 .ensures) (omega (arith, small-sum (c .before .before .before .before .before .before .before .args .self .nlength) (c .before .before .before .before .before .before .before .args .other .nlength) (c .before .before .before .before .before .before .before .pre .0 .nlength) (c .before .before .before .before .before .before .before .pre .1 .nlength))), omega (arith, c .before .before .before .before .before .before .before .pre .0 .start), omega (arith, c .before .before .before .before .before .before .before .pre .1 .nend))
 
 returns : tie.Need-returns
 unfolding joined
@@ -15,4 +23,4 @@ returns c =
 pub joined-spec : {M : Type 1} → statement M
 joined-spec =
     tie.close
-    (tie.spec (λ c κs. search needs) (λ c κs. search needs) (λ c κs. search needs) (λ c κs. search needs) (λ c κs. search needs) (λ c κs. search needs) (λ c κs. search needs) (λ c κs. search needs) returns)
+    (tie.spec (λ c κs. search needs) (λ c κs. search needs) (λ c κs. search needs) (λ c κs. search needs) (λ c κs. search needs) or-sum-requires-5 (λ c κs. search needs) or-sum-requires-6 returns)

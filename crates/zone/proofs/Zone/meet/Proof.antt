@@ -1,4 +1,6 @@
 use Rattle.zone.proofs.Ranges.{ranged-both}
+use Rattle.zone.specs.Limit.{at-most, nought}
+use Rattle.zone.proofs.Order.{⊕-comm}
 use Rattle.zone.proofs.Means.{meet-means}
 use Rattle.zone.proofs.Steps.{no-room}
 use Rattle.zone.proofs.Tighten.{meet-first-l, meet-first-r}
@@ -12,7 +14,7 @@ returns : tie.Need-returns
 returns c =
     let z = c .before .before .args .self in
     let w = c .before .before .args .other in
-    let v : empty ≡ meet z w = no-room _ _ (meet z w) (c .before .leaves-room .ensures) (c .if1 .taken) ∙ meet-first-l z w in
+    let v : empty ≡ meet z w = no-room _ _ (meet z w) (c .before .leaves-room .ensures ∙ ap (at-most nought) (⊕-comm _ _)) (c .if1 .taken) ∙ meet-first-l z w in
     (v, meet-means z w v)
 
 returns-2 : tie.Need-returns-2

@@ -1,0 +1,14 @@
+use native.Mathlib.Omega.{arith}
+use Rattle.zone.specs.Words.{zoneAt}
+use Rattle.list.proofs.Puts.{held}
+use borrow.Author.Needs.{needs}
+use Rattle.list.proofs.grow_from.Statement.{statement}
+use Rattle.list.proofs.grow_from.Tie as tie
+
+returns : tie.Need-returns
+returns c = rw (held (zoneAt (c .before .before .before .before .before .before .before .before .args .words .now) (c .before .before .before .before .before .before .before .before .args .at)) _ (c .before .before .before .before .before .copy-zone .ensures) (omega arith)) at (c .before .grow .ensures)
+
+pub grow-from-spec : {M : Type 1} → statement M
+grow-from-spec =
+    tie.close
+    (tie.spec (λ c. search needs) (λ c κs. search needs) (λ c. search needs) (λ c κs. search needs) (λ c. search needs) returns)
