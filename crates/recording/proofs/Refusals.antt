@@ -5,10 +5,12 @@ use mathlib.Core.List.{List}
 use mathlib.Core.Logic.{_↔_}
 use Prim.Native.Nat.{ℕ, zero, suc, _+_, _-_, _*_, _%_, _^_, _/_, _≤_, _<_}
 use native.Mathlib.Decide.{ℕ-discrete}
+use native.Mathlib.Nat.{div-eq-of-lt, le-div-iff-mul-le, one-mul}
 use native.Mathlib.Numerals.{add-one}
 use native.Mathlib.Omega.{arith}
-use borrow.Author.Tests.{ltb-true, lt-ltb, leb-true, leb-false, le-leb, eqb-true, eq-eqb, not-true, not-false}
+use borrow.Author.Tests.{ltb-true, ltb-false, lt-ltb, leb-true, leb-false, le-leb, eqb-true, eq-eqb, ne-eqb, not-true, not-false}
 use lib.Dec.{leb, ltb, eqb}
+use lib.Pow.{shl-exact}
 use lib.ListN.{length}
 use Rattle.recording.specs.Reading.{Sized, Headed, Changed, AllChanged, ReadAs, sized, headed, changed, allChanged, reading, number, numbers, marked, headMark, changeMark, duration, channels, changes, time, levels, byteAt, ticks}
 use Rattle.recording.specs.declared.Recording.{Recording}
@@ -22,6 +24,17 @@ passed {a} e h = sym e ∙ not-false a h
 
 pub failed : {a b : Bool} → a ≡ b → not a ≡ true → b ≡ false
 failed {a} e h = sym e ∙ not-true a h
+
+-- a number is below m exactly where m does not divide it even once
+pub within : (n m : ℕ) → 0 < m → ltb n m ≡ eqb (n / m) 0
+within n m h = go (ltb n m) refl
+  where
+    go : (b : Bool) → ltb n m ≡ b → b ≡ eqb (n / m) 0
+    go true e = sym (eq-eqb (n / m) 0 (div-eq-of-lt (ltb-true n m e)))
+    go false e = let l : 1 ≤ n / m = le-div-iff-mul-le h .1 (omega (arith, ltb-false n m e)) in sym (ne-eqb (n / m) 0 (λ z. omega (arith, l, z)))
+
+pub one-bit-each : (k : ℕ) → k ≤ 16 → (1 * 2 ^ k) % 4294967296 ≡ 2 ^ k
+one-bit-each k h = shl-exact 1 k 32 (omega arith) (omega arith) ∙ one-mul (2 ^ k)
 
 -- THE TESTS SAY WHAT THE CAUSES SAY
 

@@ -3,7 +3,7 @@
 
 ghost use mathlib.Core.Path.{_≡_};
 ghost use mathlib.Core.Bool.{_&&_, _||_};
-ghost use Prim.Native.Nat.{_+_, _-_, _*_, _≤_, _<_, min, max};
+ghost use Prim.Native.Nat.{_+_, _-_, _*_, _^_, _≤_, _<_, min, max};
 ghost use lib.Dec.{leb, ltb};
 ghost use lib.ListN.{length};
 ghost use Rattle.recording.specs.Reading.{tick as tickOf, le16 as le16At, le32 as le32At, marked as markedBy, duration as durationOf, channels as channelsOf, time as timeOf, sized as sizedBy, headed as headedBy, changed as changedBy, allChanged, reading, ticks as ticksOf, ReadAs};
@@ -142,9 +142,9 @@ fn rises(bytes: &[u8], j: usize, time: u32) -> bool
     le32(bytes, 8 * (j - 1) + 2) < time
 }
 
-// Nothing is wrong with change j.
-fn changed(bytes: &[u8], j: usize, duration: u32, channels: u8) -> bool
-    requires { ⌜ (8 * j + 7 < length (now bytes)) × (duration ≡ durationOf (now bytes)) × (channels ≡ channelsOf (now bytes)) × (channels ≤ 16) ⌝ }
+// Nothing is wrong with change j. Its levels are below `bits`, one bit for each channel.
+fn changed(bytes: &[u8], j: usize, duration: u32, bits: u32) -> bool
+    requires { ⌜ (8 * j + 7 < length (now bytes)) × (duration ≡ durationOf (now bytes)) × (bits ≡ 2 ^ channelsOf (now bytes)) ⌝ }
     ensures { λ r. ⌜ r ≡ changedBy (now (bytes .entry)) j ⌝ }
 {
     if !marked(bytes, j, CHANGE) {
@@ -157,18 +157,18 @@ fn changed(bytes: &[u8], j: usize, duration: u32, channels: u8) -> bool
     if !rises(bytes, j, time) {
         return false;
     }
-    le16(bytes, 8 * j + 6) >> channels == 0
+    le16(bytes, 8 * j + 6) < bits
 }
 
 // Nothing is wrong with the changes 1 to `changes`.
-fn all_changed(bytes: &[u8], changes: usize, duration: u32, channels: u8) -> bool
-    requires { ⌜ (8 * changes + 7 < length (now bytes)) × (duration ≡ durationOf (now bytes)) × (channels ≡ channelsOf (now bytes)) × (channels ≤ 16) ⌝ }
+fn all_changed(bytes: &[u8], changes: usize, duration: u32, bits: u32) -> bool
+    requires { ⌜ (8 * changes + 7 < length (now bytes)) × (duration ≡ durationOf (now bytes)) × (bits ≡ 2 ^ channelsOf (now bytes)) ⌝ }
     ensures { λ r. ⌜ r ≡ allChanged (now (bytes .entry)) changes ⌝ }
 {
     let mut j = 0;
     while j < changes {
         j += 1;
-        if !changed(bytes, j, duration, channels) {
+        if !changed(bytes, j, duration, bits) {
             return false;
         }
     }
@@ -188,7 +188,7 @@ pub fn read(bytes: &[u8], largest: usize) -> Reading
     let changes = bytes.len() / 8 - 1;
     let duration = le32(bytes, 2);
     let channels = bytes[6];
-    if !all_changed(bytes, changes, duration, channels) {
+    if !all_changed(bytes, changes, duration, 1 << channels) {
         return Reading::WrongChange;
     }
     Reading::Recorded(Recording {

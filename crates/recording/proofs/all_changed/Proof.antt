@@ -9,10 +9,10 @@ use Rattle.recording.proofs.all_changed.Statement.{statement}
 use Rattle.recording.proofs.all_changed.Tie as tie
 
 abbrev Inv-loop : tie.InvT-loop
-Inv-loop bytes changes duration channels j₀ j = (j ≤ changes) × (allChanged bytes j ≡ true)
+Inv-loop bytes changes duration bits j₀ j = (j ≤ changes) × (allChanged bytes j ≡ true)
 
 abbrev μ-loop : tie.MeasureT-loop
-μ-loop bytes changes duration channels j₀ j = changes - j
+μ-loop bytes changes duration bits j₀ j = changes - j
 
 exact : {j n : ℕ} → j ≤ n → n ≤ j → j ≡ n
 exact h k = omega arith
@@ -25,7 +25,7 @@ add-j : tie.Need-add-j Inv-loop μ-loop
 add-j c = omega arith
 
 changed-requires : tie.Need-changed-requires Inv-loop μ-loop
-changed-requires c κs = (omega arith, c .before .before .before .pre .1, c .before .before .before .pre .2, c .before .before .before .pre .3)
+changed-requires c κs = (omega arith, c .before .before .before .pre .1, c .before .before .before .pre .2)
 
 returns : tie.Need-returns Inv-loop μ-loop
 returns c = sym (one-wrong (c .before .before .before .before .before .args .bytes .now) (c .before .before .before .before .before .args .changes) (c .before .before .before .loop .j) (c .before .before .loop-test .taken) (failed (c .before .changed .ensures) (c .if1 .taken)))

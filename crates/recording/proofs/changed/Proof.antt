@@ -1,8 +1,10 @@
 -- At each `return` the tests that led there decide the test of the whole change.
+use Prim.Native.Nat.{_^_}
 use native.Mathlib.Omega.{arith}
+use lib.Pow.{pow-pos}
 use borrow.Author.Tests.{le-ltb, lt-ltb}
-use Rattle.recording.specs.Reading.{changed, duration, time}
-use Rattle.recording.proofs.Refusals.{passed, failed}
+use Rattle.recording.specs.Reading.{changed, duration, channels, time, levels}
+use Rattle.recording.proofs.Refusals.{passed, failed, within}
 use borrow.Author.Needs.{needs}
 use Rattle.recording.proofs.changed.Statement.{statement}
 use Rattle.recording.proofs.changed.Tie as tie
@@ -24,9 +26,9 @@ returns-3 c = let bytes = c .before .before .before .before .before .before .bef
 returns-4 : tie.Need-returns-4
 unfolding changed
 returns-4 c = let bytes = c .before .before .before .before .before .before .before .before .args .bytes .now in
-    rw (passed (c .before .before .before .before .before .before .marked .ensures) (c .before .before .before .before .before .if1 .left), lt-ltb (time bytes (c .before .before .before .before .before .before .before .before .args .j)) (duration bytes) (omega (arith, c .before .before .before .if2 .left, c .before .before .before .before .le32 .ensures, c .before .before .before .before .before .before .before .before .pre .1)), passed (c .before .before .rises .ensures) (c .before .if3 .left), ← c .le16 .ensures .0, ← c .before .before .before .before .before .before .before .before .pre .2)
+    rw (passed (c .before .before .before .before .before .before .marked .ensures) (c .before .before .before .before .before .if1 .left), lt-ltb (time bytes (c .before .before .before .before .before .before .before .before .args .j)) (duration bytes) (omega (arith, c .before .before .before .if2 .left, c .before .before .before .before .le32 .ensures, c .before .before .before .before .before .before .before .before .pre .1)), passed (c .before .before .rises .ensures) (c .before .if3 .left), ← within (levels bytes (c .before .before .before .before .before .before .before .before .args .j)) (2 ^ channels bytes) (pow-pos (channels bytes)), ← c .le16 .ensures .0, ← c .before .before .before .before .before .before .before .before .pre .2)
 
 pub changed-spec : {M : Type 1} → statement M
 changed-spec =
     tie.close
-    (tie.spec (λ c κs. search needs) returns (λ c. search needs) (λ c. search needs) (λ c κs. search needs) returns-2 (λ c κs. search needs) returns-3 (λ c. search needs) (λ c. search needs) (λ c κs. search needs) (λ c. search needs) returns-4)
+    (tie.spec (λ c κs. search needs) returns (λ c. search needs) (λ c. search needs) (λ c κs. search needs) returns-2 (λ c κs. search needs) returns-3 (λ c. search needs) (λ c. search needs) (λ c κs. search needs) returns-4)

@@ -1,8 +1,7 @@
 -- Each answer is given by the first test that fails.
-use mathlib.Core.Path.{refl}
 use native.Mathlib.Omega.{arith}
 use Rattle.recording.specs.Reading.{reading}
-use Rattle.recording.proofs.Refusals.{passed, failed, sized-is, headed-is}
+use Rattle.recording.proofs.Refusals.{passed, failed, sized-is, headed-is, one-bit-each}
 use borrow.Author.Needs.{needs}
 use Rattle.recording.proofs.read.Statement.{statement}
 use Rattle.recording.proofs.read.Tie as tie
@@ -27,8 +26,14 @@ le32-requires c κs = let s = sized-is (c .before .before .before .before .befor
 shared-slice-read-channels : tie.Need-shared-slice-read-channels
 shared-slice-read-channels c = let s = sized-is (c .before .before .before .before .before .before .before .args .largest) (c .before .before .before .before .before .before .before .args .bytes .now) .0 (passed (c .before .before .before .before .before .sized .ensures) (c .before .before .before .before .if1 .left)) in omega (arith, s .some, s .whole)
 
+cast-all-changed : tie.Need-cast-all-changed
+cast-all-changed c = let h = headed-is (c .before .before .before .before .before .before .before .args .bytes .now) .0 (passed (c .before .before .before .headed .ensures) (c .before .before .if2 .left)) in record { fits = omega (arith, h .few) }
+
+shl-all-changed : tie.Need-shl-all-changed
+shl-all-changed c = let h = headed-is (c .before .before .before .before .before .before .before .args .bytes .now) .0 (passed (c .before .before .before .headed .ensures) (c .before .before .if2 .left)) in omega (arith, h .few)
+
 all-changed-requires : tie.Need-all-changed-requires
-all-changed-requires c κs = let s = sized-is (c .before .before .before .before .before .before .before .args .largest) (c .before .before .before .before .before .before .before .args .bytes .now) .0 (passed (c .before .before .before .before .before .sized .ensures) (c .before .before .before .before .if1 .left)) in let h = headed-is (c .before .before .before .before .before .before .before .args .bytes .now) .0 (passed (c .before .before .before .headed .ensures) (c .before .before .if2 .left)) in (omega (arith, s .some, s .whole), c .before .le32 .ensures, refl, h .few)
+all-changed-requires c κs = let s = sized-is (c .before .before .before .before .before .before .before .args .largest) (c .before .before .before .before .before .before .before .args .bytes .now) .0 (passed (c .before .before .before .before .before .sized .ensures) (c .before .before .before .before .if1 .left)) in let h = headed-is (c .before .before .before .before .before .before .before .args .bytes .now) .0 (passed (c .before .before .before .headed .ensures) (c .before .before .if2 .left)) in (omega (arith, s .some, s .whole), c .before .le32 .ensures, one-bit-each _ (h .few))
 
 returns-3 : tie.Need-returns-3
 unfolding reading
@@ -44,4 +49,4 @@ returns-4 c = rw (passed (c .before .before .before .before .before .before .bef
 pub read-spec : {M : Type 1} → statement M
 read-spec =
     tie.close
-    (tie.spec (λ c κs. search needs) returns headed-requires returns-2 sub-changes le32-requires shared-slice-read-channels all-changed-requires returns-3 tick-requires returns-4)
+    (tie.spec (λ c κs. search needs) returns headed-requires returns-2 sub-changes le32-requires shared-slice-read-channels cast-all-changed shl-all-changed all-changed-requires returns-3 tick-requires returns-4)
