@@ -16,14 +16,14 @@ use Rattle.zone.specs.declared.Limit.the-variants.{AtMost}
 use Rattle.zone.specs.Zone.{Proper, diagonal}
 use Rattle.zone.proofs.Laws.{proper-band}
 use Rattle.zone.proofs.Times.{≤-trans, tick-≤}
-use Rattle.list.specs.Insert.{Built, overfull, insert-each}
+use Rattle.list.specs.Insert.{covered, outside, Built, overfull, insert-each}
 use Rattle.list.specs.Star.{finished, burst, Star}
 use Rattle.list.specs.Slots.{listAt, Kept, KeptBoth, Sound, SoundBand, Listing, Closing, InsertAs, BuiltAs}
 use Rattle.list.specs.declared.Inserted.{Inserted}
 use Rattle.list.specs.declared.Inserted.the-variants.{Away, Placed, Full}
 use Rattle.list.specs.declared.Listed.{Listed}
 use Rattle.list.specs.declared.Listed.the-variants.{Count, Overfull}
-use Rattle.list.proofs.Puts.{grown, grown-kept}
+use Rattle.list.proofs.Puts.{insert-placed, grown, grown-kept}
 use Rattle.list.proofs.Answers.{listing, brought}
 use Rattle.list.proofs.Theorems.{star-bound}
 use Rattle.expression.specs.declared.Range.{Range}
@@ -50,6 +50,13 @@ module _ (z : Zone) (ws vs : List ℤ) (base n : ℕ) (few : n ≤ 128) where
 
   pub put-kept : (r : Inserted) → InsertAs z ws base n vs r → Kept base 768 ws vs
   put-kept r a = grown-kept z ws vs base n false few r a
+
+-- a put into an empty list is placed
+pub first-placed : (z : Zone) (ws vs : List ℤ) (base : ℕ) (r : Inserted) → InsertAs z ws base 0 vs r → (n : ℕ) × (r ≡ Placed n)
+unfolding listAt covered outside
+first-placed z ws vs base (Placed n) a = (n, refl)
+first-placed z ws vs base Away (e, k) = absurd (let p = insert-placed z [] refl (omega arith) in let f : _≡_ {A = ℕ} 0 1 = cc in omega arith)
+first-placed z ws vs base Full (e, k) = absurd (let p = insert-placed z [] refl (omega arith) in let f : _≡_ {A = ℕ} 0 1 = cc in omega arith)
 
 -- ---- a list that was built
 

@@ -105,8 +105,8 @@ fn point(work: &mut [i32], base: usize, ticks: u32) -> Evaluated
     ensures value { λ r. ⌜ EvaluatedAs (λ v. v ≡ ended (insert-each (zone (diagonal 0 ticks) ∷ []) []) 0) (now (work .exit)) base r ⌝ }
     ensures kept { λ _. ⌜ Kept base 768 (now (work .entry)) (now (work .exit)) ⌝ }
 {
-    let Listed::Count(count) = put(work, base, 0, Zone::diagonal(0, ticks)) else {
-        return Evaluated::Overflow;
+    let Inserted::Placed(count) = list::insert(work, base, 0, Zone::diagonal(0, ticks)) else {
+        return Evaluated::Overflow; // an empty list has room
     };
     Evaluated::Listed { count, rounds: 0 }
 }
