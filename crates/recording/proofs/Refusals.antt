@@ -1,6 +1,6 @@
 -- What reading answers, in the words of the table of refusals: each number is given exactly when its cause holds and no earlier one does.
 use mathlib.Core.Path.{_≡_, refl, sym, ap, subst, _∙_}
-use mathlib.Core.Bool.{Bool, true, false, cond, not, _&&_, _||_}
+use mathlib.Core.Bool.{Bool, true, false, cond, not, _&&_, _||_, and-false}
 use mathlib.Core.List.{List}
 use mathlib.Core.Logic.{_↔_}
 use Prim.Native.Nat.{ℕ, zero, suc, _+_, _-_, _*_, _%_, _^_, _/_, _≤_, _<_}
@@ -8,7 +8,7 @@ use native.Mathlib.Decide.{ℕ-discrete}
 use native.Mathlib.Nat.{div-eq-of-lt, le-div-iff-mul-le, one-mul}
 use native.Mathlib.Numerals.{add-one}
 use native.Mathlib.Omega.{arith}
-use borrow.Author.Tests.{ltb-true, ltb-false, lt-ltb, leb-true, leb-false, le-leb, eqb-true, eq-eqb, ne-eqb, not-true, not-false}
+use borrow.Author.Tests.{ltb-true, ltb-false, lt-ltb, leb-true, leb-false, le-leb, lt-leb, eqb-true, eq-eqb, ne-eqb, not-true, not-false}
 use lib.Dec.{leb, ltb, eqb}
 use lib.Pow.{shl-exact}
 use lib.ListN.{length}
@@ -57,13 +57,13 @@ both {a = false} p q = (λ e. absurd (impossible e), λ h. p .1 (h .0))
     impossible : false ≡ true → ⊥
     impossible e = let z : _≡_ {A = ℕ} 0 1 = cc in omega arith
 
--- after the first change
-above-is : (j m n : ℕ) → Tests (leb j 1 || ltb m n) (1 < j → m < n)
-above-is j m n = go (leb j 1) refl
+-- after change i
+above-is : (i j m n : ℕ) → Tests (leb j i || ltb m n) (i < j → m < n)
+above-is i j m n = go (leb j i) refl
   where
-    go : (t : Bool) → leb j 1 ≡ t → Tests (t || ltb m n) (1 < j → m < n)
-    go true e = (λ _ h. let k = leb-true j 1 e in omega arith, λ _. refl)
-    go false e = (λ q _. ltb-true m n q, λ h. lt-ltb m n (h (leb-false j 1 e)))
+    go : (t : Bool) → leb j i ≡ t → Tests (t || ltb m n) (i < j → m < n)
+    go true e = (λ _ h. let k = leb-true j i e in omega arith, λ _. refl)
+    go false e = (λ q _. ltb-true m n q, λ h. lt-ltb m n (h (leb-false j i e)))
 
 pub sized-is : (largest : ℕ) (bytes : List ℕ) → Tests (sized largest bytes) (Sized largest bytes)
 unfolding sized
@@ -90,7 +90,7 @@ changed-is : (bytes : List ℕ) (j : ℕ) → Tests (changed bytes j) (Changed b
 unfolding changed
 changed-is bytes j =
     let t = both (mark-is (marked bytes j changeMark)) (both (lt-is (time bytes j) (duration bytes))
-    (both (above-is j (time bytes (j - 1)) (time bytes j)) (eq-is (levels bytes j / 2 ^ channels bytes) 0))) in (
+    (both (above-is 1 j (time bytes (j - 1)) (time bytes j)) (eq-is (levels bytes j / 2 ^ channels bytes) 0))) in (
       λ e. let h = t .0 e in record { mark = h .0; below = h .1 .0; above = h .1 .1 .0; quiet = h .1 .1 .1 },
       λ s. t .1 (s .mark, (s .below, (s .above, s .quiet))),
     )
@@ -112,16 +112,47 @@ off : {b : Bool} {A : Type 0} → Tests b A → (A → ⊥) → b ≡ false
 off {b = true} t n = absurd (n (t .0 refl))
 off {b = false} t n = refl
 
--- a wrong change among the first n, and one right change more
-pub one-wrong : (bytes : List ℕ) (n j : ℕ) → j < n → changed bytes (j + 1) ≡ false → allChanged bytes n ≡ false
-one-wrong bytes n j h e = off (all-is bytes n) (λ a. wrong (changed-is bytes (j + 1) .1 (a (j + 1) (omega arith) (omega arith))))
-  where
-    wrong : changed bytes (j + 1) ≡ true → ⊥
-    wrong q = let z : _≡_ {A = ℕ} 0 1 = cc in omega arith
+-- a claim whose test fails, and two tests of one claim
+no-way : {b : Bool} {A : Type 0} → b ≡ false → Tests b A → A → ⊥
+no-way p t h = let q = t .1 h in let z : _≡_ {A = ℕ} 0 1 = cc in omega arith
 
-pub one-more : (bytes : List ℕ) (j : ℕ) → allChanged bytes j ≡ true → changed bytes (j + 1) ≡ true → allChanged bytes (j + 1) ≡ true
+agree : {a b : Bool} {A : Type 0} → Tests a A → Tests b A → a ≡ b
+agree {a = true} s t = sym (t .1 (s .0 refl))
+agree {a = false} s t = sym (off t (no-way refl s))
+
+-- numbers of two bytes are equal exactly where both their bytes are
+pub two-bytes : (a b c d : ℕ) → a < 256 → c < 256 → eqb (a + 256 * b) (c + 256 * d) ≡ (eqb a c && eqb b d)
+two-bytes a b c d h k =
+    let t = eq-is (a + 256 * b) (c + 256 * d) in
+    agree (λ e. let q = t .0 e in (omega arith, omega arith), λ p. t .1 (omega (arith, p .0, p .1))) (both (eq-is a c) (eq-is b d))
+
+-- change j, if there is one, comes before the end
+abbrev pub inTime : List ℕ → ℕ → Bool
+inTime bytes j = leb j 0 || ltb (time bytes j) (duration bytes)
+
+-- a wrong change among the first n, and one change more that is right unless it comes too late
+pub one-wrong : (bytes : List ℕ) (n j : ℕ) → j < n → changed bytes (j + 1) ≡ false → allChanged bytes n ≡ false
+one-wrong bytes n j h e = off (all-is bytes n) (λ a. no-way e (changed-is bytes (j + 1)) (a (j + 1) (omega arith) (omega arith)))
+
+-- .. and a last one that comes too late
+pub late : (bytes : List ℕ) (n : ℕ) → 0 < n → duration bytes ≤ time bytes n → allChanged bytes n ≡ false
+late bytes n some h = off (all-is bytes n) (λ a. omega (arith, a n some (omega arith) .below, h))
+
+pub one-more : (bytes : List ℕ) (j : ℕ) → allChanged bytes j ≡ inTime bytes j
+    → changed bytes (j + 1) ≡ ltb (time bytes (j + 1)) (duration bytes) → allChanged bytes (j + 1) ≡ inTime bytes (j + 1)
 unfolding allChanged
-one-more bytes j a e = rw add-one (rw (a, ← add-one) e)
+one-more bytes j a e = rw (add-one j) (rw (a, e′, lt-leb (suc j) 0 (omega arith)) (go (ltb (time bytes (suc j)) (duration bytes)) refl))
+  where
+    e′ : changed bytes (suc j) ≡ ltb (time bytes (suc j)) (duration bytes)
+    e′ = rw (add-one j) at e
+
+    go : (b : Bool) → ltb (time bytes (suc j)) (duration bytes) ≡ b → (inTime bytes j && b) ≡ b
+    go false q = and-false (inTime bytes j)
+    go true q =
+        let h = changed-is bytes (suc j) .0 (e′ ∙ q) in
+        let before : suc j - 1 ≡ j = omega arith in
+        let above : 0 < j → time bytes j < time bytes (suc j) = λ k. rw before at (h .above (omega arith)) in
+        rw (above-is 0 j (time bytes j) (duration bytes) .1 (λ k. omega (arith, h .below, above k)))
 
 -- THE ANSWERS
 
@@ -138,9 +169,6 @@ module _ (largest : ℕ) (bytes : List ℕ) where
   due = go (sized largest bytes) (sized-is largest bytes) (headed bytes) (headed-is bytes)
       (allChanged bytes (changes bytes)) (all-is bytes (changes bytes))
     where
-      no-way : {b : Bool} {A : Type 0} → b ≡ false → Tests b A → A → ⊥
-      no-way p t h = let q = t .1 h in let z : _≡_ {A = ℕ} 0 1 = cc in omega arith
-
       go : (s : Bool) → Tests s (Sized largest bytes) → (h : Bool) → Tests h (Headed bytes) → (a : Bool) → Tests a (AllChanged bytes)
           → Due largest bytes (cond s (cond h (cond a (Recorded (numbers bytes)) WrongChange) WrongHead) WrongLength)
       go true s true h true a = (s .0 refl, h .0 refl, a .0 refl, refl)

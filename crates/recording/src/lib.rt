@@ -6,7 +6,7 @@ ghost use mathlib.Core.Bool.{_&&_, _||_};
 ghost use Prim.Native.Nat.{_+_, _-_, _*_, _^_, _≤_, _<_, min, max};
 ghost use lib.Dec.{leb, ltb};
 ghost use lib.ListN.{length};
-ghost use Rattle.recording.specs.Reading.{tick as tickOf, le16 as le16At, le32 as le32At, marked as markedBy, duration as durationOf, channels as channelsOf, time as timeOf, sized as sizedBy, headed as headedBy, changed as changedBy, allChanged, reading, ticks as ticksOf, ReadAs};
+ghost use Rattle.recording.specs.Reading.{tick as tickOf, byteAt, le16 as le16At, le32 as le32At, marked as markedBy, duration as durationOf, channels as channelsOf, time as timeOf, sized as sizedBy, headed as headedBy, changed as changedBy, allChanged, reading, ticks as ticksOf, ReadAs};
 ghost use Rattle.recording.specs.Levels.{levelIn};
 ghost use Rattle.recording.specs.Scan.{sameLevel, leaves as leavesAt, begins as beginsAt, NextRun, Sought};
 
@@ -62,7 +62,7 @@ fn wide(x: u8) -> u32
 // The 2 bytes at a place, low byte first.
 fn le16(bytes: &[u8], at: usize) -> u32
     requires { ⌜ at + 1 < length (now bytes) ⌝ }
-    ensures { λ r. ⌜ (r ≡ le16At (now (bytes .entry)) at) × (r < 65536) ⌝ }
+    ensures { λ r. ⌜ (r ≡ le16At (now (bytes .entry)) at) × (r < 65536) × (byteAt (now (bytes .entry)) at < 256) ⌝ }
 {
     wide(bytes[at]) + 256 * wide(bytes[at + 1])
 }
@@ -88,11 +88,7 @@ fn marked(bytes: &[u8], j: usize, mark: [u8; 2]) -> bool
     requires { ⌜ 8 * j + 1 < length (now bytes) ⌝ }
     ensures { λ r. ⌜ r ≡ markedBy (now (bytes .entry)) j mark ⌝ }
 {
-    let at = 8 * j;
-    if bytes[at] != mark[0] {
-        return false;
-    }
-    bytes[at + 1] == mark[1]
+    le16(bytes, 8 * j) == le16(&mark, 0)
 }
 
 fn between(x: u32, low: u32, high: u32) -> bool
@@ -132,29 +128,25 @@ fn headed(bytes: &[u8]) -> bool
 }
 
 // The first change may come at any time, a later one only after the change before it.
-fn rises(bytes: &[u8], j: usize, time: u32) -> bool
-    requires { ⌜ (8 * j + 7 < length (now bytes)) × (time ≡ timeOf (now bytes) j) ⌝ }
+fn rises(bytes: &[u8], j: usize) -> bool
+    requires { ⌜ 8 * j + 7 < length (now bytes) ⌝ }
     ensures { λ r. ⌜ r ≡ (leb j 1 || ltb (timeOf (now (bytes .entry)) (j - 1)) (timeOf (now (bytes .entry)) j)) ⌝ }
 {
     if j <= 1 {
         return true;
     }
-    le32(bytes, 8 * (j - 1) + 2) < time
+    le32(bytes, 8 * (j - 1) + 2) < le32(bytes, 8 * j + 2)
 }
 
-// Nothing is wrong with change j. Its levels are below `bits`, one bit for each channel.
-fn changed(bytes: &[u8], j: usize, duration: u32, bits: u32) -> bool
-    requires { ⌜ (8 * j + 7 < length (now bytes)) × (duration ≡ durationOf (now bytes)) × (bits ≡ 2 ^ channelsOf (now bytes)) ⌝ }
-    ensures { λ r. ⌜ r ≡ changedBy (now (bytes .entry)) j ⌝ }
+// Nothing is wrong with change j, unless it comes too late. Its levels are below `bits`, one bit for each channel.
+fn changed(bytes: &[u8], j: usize, bits: u32) -> bool
+    requires { ⌜ (8 * j + 7 < length (now bytes)) × (bits ≡ 2 ^ channelsOf (now bytes)) ⌝ }
+    ensures { λ r. ⌜ changedBy (now (bytes .entry)) j ≡ (r && ltb (timeOf (now (bytes .entry)) j) (durationOf (now (bytes .entry)))) ⌝ }
 {
     if !marked(bytes, j, CHANGE) {
         return false;
     }
-    let time = le32(bytes, 8 * j + 2);
-    if duration <= time {
-        return false;
-    }
-    if !rises(bytes, j, time) {
+    if !rises(bytes, j) {
         return false;
     }
     le16(bytes, 8 * j + 6) < bits
@@ -165,10 +157,17 @@ fn all_changed(bytes: &[u8], changes: usize, duration: u32, bits: u32) -> bool
     requires { ⌜ (8 * changes + 7 < length (now bytes)) × (duration ≡ durationOf (now bytes)) × (bits ≡ 2 ^ channelsOf (now bytes)) ⌝ }
     ensures { λ r. ⌜ r ≡ allChanged (now (bytes .entry)) changes ⌝ }
 {
+    if changes == 0 {
+        return true;
+    }
+    // Times rise, so the last one is the latest.
+    if duration <= le32(bytes, 8 * changes + 2) {
+        return false;
+    }
     let mut j = 0;
     while j < changes {
         j += 1;
-        if !changed(bytes, j, duration, bits) {
+        if !changed(bytes, j, bits) {
             return false;
         }
     }

@@ -1,43 +1,50 @@
--- Every change before the j-th has been found right.
+-- Every change before the j-th has been found right, unless it comes too late; times rise, so then the last one does.
 use Prim.Native.Nat.{ℕ, _≤_, _-_}
 use mathlib.Core.Path.{_≡_, refl, sym}
-use mathlib.Core.Bool.{true}
+use mathlib.Core.List.{List}
 use native.Mathlib.Omega.{arith}
-use Rattle.recording.specs.Reading.{allChanged}
-use Rattle.recording.proofs.Refusals.{passed, failed, one-wrong, one-more}
+use borrow.Author.Tests.{lt-leb, lt-ltb, not-true, not-false}
+use Rattle.recording.specs.Reading.{allChanged, duration, time}
+use Rattle.recording.proofs.Refusals.{inTime, late, one-wrong, one-more}
+use borrow.Author.Needs.{needs}
 use Rattle.recording.proofs.all_changed.Statement.{statement}
 use Rattle.recording.proofs.all_changed.Tie as tie
 
 abbrev Inv-loop : tie.InvT-loop
-Inv-loop bytes changes duration bits j₀ j = (j ≤ changes) × (allChanged bytes j ≡ true)
+Inv-loop bytes changes duration bits j₀ j = (j ≤ changes) × (allChanged bytes j ≡ inTime bytes j)
 
 abbrev μ-loop : tie.MeasureT-loop
 μ-loop bytes changes duration bits j₀ j = changes - j
 
-exact : {j n : ℕ} → j ≤ n → n ≤ j → j ≡ n
-exact h k = omega arith
+-- behind the loop all changes are tested
+ended : (bytes : List ℕ) {j n : ℕ} → (j ≤ n) × (allChanged bytes j ≡ inTime bytes j) → n ≤ j → allChanged bytes n ≡ inTime bytes n
+ended bytes {j} {n} i h = let e : n ≡ j = omega (arith, i .0) in rw e (i .1)
+
+returns : tie.Need-returns Inv-loop μ-loop
+unfolding allChanged
+returns c = rw (c .if1 .taken)
+
+returns-2 : tie.Need-returns-2 Inv-loop μ-loop
+returns-2 c = sym (late (c .before .before .before .before .args .bytes .now) (c .before .before .before .before .args .changes) (omega (arith, c .before .before .if1 .left)) (omega (arith, c .if2 .taken, c .before .le32 .ensures, c .before .before .before .before .pre .1)))
 
 loop-holds : tie.Need-loop-holds Inv-loop μ-loop
 unfolding allChanged
 loop-holds c = (omega arith, refl)
 
-add-j : tie.Need-add-j Inv-loop μ-loop
-add-j c = omega arith
-
 changed-requires : tie.Need-changed-requires Inv-loop μ-loop
-changed-requires c κs = (omega arith, c .before .before .before .pre .1, c .before .before .before .pre .2)
+changed-requires c κs = (omega arith, c .before .before .before .before .before .before .pre .2)
 
-returns : tie.Need-returns Inv-loop μ-loop
-returns c = sym (one-wrong (c .before .before .before .before .before .args .bytes .now) (c .before .before .before .before .before .args .changes) (c .before .before .before .loop .j) (c .before .before .loop-test .taken) (failed (c .before .changed .ensures) (c .if1 .taken)))
-
-loop-less : tie.Need-loop-less Inv-loop μ-loop
-loop-less c = omega arith
+returns-3 : tie.Need-returns-3 Inv-loop μ-loop
+returns-3 c = sym (one-wrong (c .before .before .before .before .before .before .before .before .args .bytes .now) (c .before .before .before .before .before .before .before .before .args .changes) (c .before .before .before .loop .j) (c .before .before .loop-test .taken) (rw (c .before .changed .ensures, not-true (c .before .changed .result) (c .if3 .taken))))
 
 loop-again : tie.Need-loop-again Inv-loop μ-loop
-loop-again c = (omega arith, one-more (c .before .before .before .before .before .args .bytes .now) (c .before .before .before .loop .j) (c .before .before .before .loop .inv .1) (passed (c .before .changed .ensures) (c .if1 .left)))
+loop-again c = (omega arith, one-more (c .before .before .before .before .before .before .before .before .args .bytes .now) (c .before .before .before .loop .j) (c .before .before .before .loop .inv .1) (rw (c .before .changed .ensures, not-false (c .before .changed .result) (c .if3 .left))))
 
-returns-2 : tie.Need-returns-2 Inv-loop μ-loop
-returns-2 c = sym (rw (exact (c .before .loop .inv .0) (c .loop-test .left)) at (c .before .loop .inv .1))
+returns-4 : tie.Need-returns-4 Inv-loop μ-loop
+returns-4 c =
+    let bytes = c .before .before .before .before .before .before .args .bytes .now in
+    let n = c .before .before .before .before .before .before .args .changes in
+    rw (ended bytes (c .before .loop .inv) (c .loop-test .left), lt-leb n 0 (omega (arith, c .before .before .before .before .if1 .left)), lt-ltb (time bytes n) (duration bytes) (omega (arith, c .before .before .if2 .left, c .before .before .before .le32 .ensures, c .before .before .before .before .before .before .pre .1)))
 
 pub all-changed-spec : {M : Type 1} → statement M
 all-changed-spec =
@@ -45,10 +52,15 @@ all-changed-spec =
     (tie.spec
     Inv-loop
     μ-loop
-    loop-holds
-    add-j
-    changed-requires
     returns
-    loop-less
+    (λ c. search needs)
+    (λ c. search needs)
+    (λ c κs. search needs)
+    returns-2
+    loop-holds
+    (λ c. search needs)
+    changed-requires
+    returns-3
+    (λ c. search needs)
     loop-again
-    returns-2)
+    returns-4)
