@@ -2,25 +2,23 @@
 use mathlib.Core.Path.{_≡_, refl, sym, ap, subst, _∙_}
 use mathlib.Core.Bool.{Bool, true, false}
 use mathlib.Core.Logic.{_⊎_, inl, inr}
-use mathlib.Core.List.{List, [], _∷_, _++_, map}
+use mathlib.Core.List.{List, [], _∷_, map}
 use Prim.Native.Nat.{ℕ, _+_, _*_, _≤_, _<_}
 use native.Mathlib.Omega.{arith}
 use lib.IntN.{ℤ}
 use lib.ListN.{length}
 use Rattle.zone.specs.declared.Zone.{Zone}
-use Rattle.zone.specs.declared.MaybeZone.{MaybeZone}
-use Rattle.zone.specs.declared.MaybeZone.the-variants.{Zone as zone, Empty as empty}
+use Rattle.zone.specs.declared.MaybeZone.the-variants.{Zone as zone}
 use Rattle.zone.specs.Zone.{Proper}
 use Rattle.zone.specs.Words.{word, zoneAt, codes, overwrite}
 use Rattle.zone.proofs.Words.{written-zone}
 use Rattle.list.specs.Insert.{Built, listed, overfull, insert-each}
-use Rattle.list.specs.Operators.{Operation, Meet, Compose, pairs, union, meets, compositions, banded}
-use Rattle.list.specs.Star.{Outcome, finished, burst, Rounds, Star, closed, no-room, round}
+use Rattle.list.specs.Operators.{Compose, pairs, union}
+use Rattle.list.specs.Star.{finished, burst, Rounds, Star, closed, no-room, round}
 use Rattle.list.specs.Slots.{listAt, Holds, Kept, KeptBoth, Disjoint, Listing, Closing, Sound}
 use Rattle.list.specs.Steps.{Copied, Mark, Growth, Changes}
 use Rattle.list.proofs.Slots.{listAt-copied, list-there, kept-refl, kept-within, kept-written}
-use Rattle.list.proofs.Puts.{holds-same}
-use Rattle.list.proofs.Loops.{then, insert-each-append, mark-start, mark-changed}
+use Rattle.list.proofs.Loops.{then, insert-each-append, mark-changed}
 
 pub listing : {built : Built} {before : Bool} {L : List Zone} {vs : List ℤ} {target n : ℕ} {changed : Bool} → Growth built before L vs target n changed → Listing built vs target n
 listing g = record { list = g .list; value = g .value; holds = g .holds }

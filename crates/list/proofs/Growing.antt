@@ -6,32 +6,34 @@ use mathlib.Core.List.{List, [], _∷_, _++_, map, List·Memᴰ, List·Memᴰ·h
 use Prim.Native.Nat.{ℕ, zero, suc, _+_, _-_, _*_, _≤_, _<_}
 use native.Mathlib.Omega.{arith}
 use lib.IntN.{ℤ}
-use lib.ListN.{length}
 use Rattle.zone.specs.declared.Zone.{Zone}
 use Rattle.zone.specs.declared.MaybeZone.{MaybeZone}
 use Rattle.zone.specs.declared.MaybeZone.the-variants.{Zone as zone, Empty as empty}
-use Rattle.zone.specs.Zone.{Proper, Ranged}
-use Rattle.zone.specs.Words.{word, zoneAt}
+use Rattle.zone.specs.Zone.{Proper}
+use Rattle.zone.specs.Words.{zoneAt}
 use Rattle.zone.proofs.Laws.{proper-meet, proper-compose, ranged}
 use Rattle.zone.proofs.Words.{same-zone}
-use Rattle.list.specs.Insert.{Built, listed, overfull, insert-each}
+use Rattle.list.specs.Insert.{Built, overfull, insert-each}
 use Rattle.list.specs.Operators.{Operation, Meet, Compose, apply, pairs}
-use Rattle.list.specs.Slots.{listAt, Source, Holds, Kept, Disjoint}
-use Rattle.list.specs.Steps.{Mark, Growth, GrownAs}
-use Rattle.list.specs.declared.Grown.the-variants.{Grew, TooMany}
-use Rattle.list.proofs.Slots.{listAt-length, listAt-next, kept-refl, kept-trans, kept-apart}
+use Rattle.list.specs.Slots.{listAt, Source, Kept, Disjoint}
+use Rattle.list.specs.Steps.{Mark, Growth, Writable, Operand}
+use Rattle.list.proofs.Slots.{listAt-next, kept-refl, kept-trans, kept-apart, list-there}
 use Rattle.list.proofs.Puts.{holds-same}
 use Rattle.list.proofs.Loops.{then, insert-each-append}
 
 -- ---- zones read from a slot while another slot is written
 
+-- the words of the i-th zone of one slot are not of the other
+zone-apart : {target : ℕ} (from n i : ℕ) → Disjoint from target → i < n → n ≤ 128 → (from + i * 6 + 6 ≤ target) ⊎ (target + 768 ≤ from + i * 6)
+zone-apart from n i (inl h) l few = inl (omega arith)
+zone-apart from n i (inr h) l few = inr (omega arith)
+
+zone-kept : {ws vs : List ℤ} {target : ℕ} (at : ℕ) → Kept target 768 ws vs → (at + 6 ≤ target) ⊎ (target + 768 ≤ at) → zoneAt vs at ≡ zoneAt ws at
+zone-kept {ws} {vs} at k h = same-zone vs ws at at (kept-apart k h)
+
 -- the i-th zone, read from the words as they are now
-pub read-there : {ws vs : List ℤ} {target : ℕ} (from n i : ℕ) → Kept target 768 ws vs → Disjoint from target → i < n → n ≤ 128 → zoneAt vs (from + i * 6) ≡ zoneAt ws (from + i * 6)
-read-there {ws} {vs} {target} from n i k d l few = same-zone vs ws (from + i * 6) (from + i * 6) (kept-apart k (apart d))
-  where
-    apart : Disjoint from target → (from + i * 6 + 6 ≤ target) ⊎ (target + 768 ≤ from + i * 6)
-    apart (inl h) = inl (omega arith)
-    apart (inr h) = inr (omega arith)
+read-there : {ws vs : List ℤ} {target : ℕ} (from n i : ℕ) → Kept target 768 ws vs → Disjoint from target → i < n → n ≤ 128 → zoneAt vs (from + i * 6) ≡ zoneAt ws (from + i * 6)
+read-there from n i k d l few = zone-kept (from + i * 6) k (zone-apart from n i d l few)
 
 pub listed-there : (ws : List ℤ) (base n i : ℕ) → i < n → List·Memᴰ (zoneAt ws (base + i * 6)) (listAt ws base n)
 unfolding listAt
@@ -41,12 +43,15 @@ listed-there ws base (suc n) (suc i) l =
     let e : base + 6 + i * 6 ≡ base + suc i * 6 = omega arith in
     List·Memᴰ·tail (subst (λ (a : ℕ). List·Memᴰ (zoneAt ws a) (listAt ws (base + 6) n)) e (listed-there ws (base + 6) n i (omega arith)))
 
-pub sound-there : {ws vs : List ℤ} {target : ℕ} (from n i : ℕ) → Source ws from n → Kept target 768 ws vs → Disjoint from target → i < n → {z : Zone} → z ≡ zoneAt vs (from + i * 6) → Proper 0 1_000_000 z
-sound-there {ws} from n i s k d l {z} e = s .sound z (subst (λ (y : Zone). List·Memᴰ y (listAt ws from n)) (sym (e ∙ read-there from n i k d l (s .few))) (listed-there ws from n i l))
+pub operand : {ws : List ℤ} {target : ℕ} (from n i : ℕ) → Source ws from n → Disjoint from target → i < n → Operand ws (from + i * 6) target
+operand {ws} from n i s d l = record { room = omega (arith, s .room, s .few); sound = s .sound _ (listed-there ws from n i l); apart = zone-apart from n i d l (s .few) }
 
-pub apply-sound : (op : Operation) (z w : Zone) {v : Zone} → Proper 0 1_000_000 z → Proper 0 1_000_000 w → apply op z w ≡ zone v → Proper 0 1_000_000 v
-apply-sound Meet z w p q e = proper-meet w p e
-apply-sound Compose z w p q e = proper-compose p q e
+pub sound-there : {ws vs : List ℤ} {at target : ℕ} → Operand ws at target → Kept target 768 ws vs → {z : Zone} → z ≡ zoneAt vs at → Proper 0 1_000_000 z
+sound-there {at = at} o k e = subst (Proper 0 1_000_000) (sym (e ∙ zone-kept at k (o .apart))) (o .sound)
+
+pub apply-writable : (op : Operation) {z w : Zone} {answer : MaybeZone} → Proper 0 1_000_000 z → Proper 0 1_000_000 w → answer ≡ apply op z w → Writable answer
+apply-writable Meet {w = w} p q e v f = ranged (proper-meet w p (sym e ∙ f))
+apply-writable Compose p q e v f = ranged (proper-compose p q (sym e ∙ f))
 
 -- ---- growing
 
@@ -117,12 +122,23 @@ all-left ws base n =
 
 -- ---- the zone at hand, read from the words as they are now, and what it gives
 
-module _ {whole : Built} {before changed : Bool} {L₀ : List Zone} {target : ℕ} {ws₀ ws : List ℤ} {k : ℕ} (from n i : ℕ) (l : i < n) (few : n ≤ 128) (d : Disjoint from target) {y : Zone} (e : y ≡ zoneAt ws (from + i * 6)) where
-  pub going-next : (f : Zone → MaybeZone) → Going (map f (listAt ws₀ (from + i * 6) (n - i))) whole before L₀ target ws₀ ws k changed → {r : MaybeZone} → f y ≡ r
-      → Going (r ∷ map f (listAt ws₀ (from + (i + 1) * 6) (n - (i + 1)))) whole before L₀ target ws₀ ws k changed
-  going-next f g {r} q =
-      going-same (map-next f ws₀ from n i l (e ∙ read-there from n i (g .frame) d l few) ∙ ap (λ (s : MaybeZone). s ∷ map f (listAt ws₀ (from + (i + 1) * 6) (n - (i + 1)))) q) g
+module _ {whole : Built} {before changed : Bool} {L₀ : List Zone} {target : ℕ} {ws₀ ws : List ℤ} {k : ℕ} (from n i : ℕ) (l : i < n) (few : n ≤ 128) (d : Disjoint from target) where
+  module _ {y : Zone} (e : y ≡ zoneAt ws (from + i * 6)) where
+    pub going-next : (f : Zone → MaybeZone) → Going (map f (listAt ws₀ (from + i * 6) (n - i))) whole before L₀ target ws₀ ws k changed → {r : MaybeZone} → f y ≡ r
+        → Going (r ∷ map f (listAt ws₀ (from + (i + 1) * 6) (n - (i + 1)))) whole before L₀ target ws₀ ws k changed
+    going-next f g {r} q =
+        going-same (map-next f ws₀ from n i l (e ∙ read-there from n i (g .frame) d l few) ∙ ap (λ (s : MaybeZone). s ∷ map f (listAt ws₀ (from + (i + 1) * 6) (n - (i + 1)))) q) g
 
-  pub going-pair : (op : Operation) (B : List Zone) → Going (pairs op (listAt ws₀ (from + i * 6) (n - i)) B) whole before L₀ target ws₀ ws k changed
-      → Going (map (apply op y) B ++ pairs op (listAt ws₀ (from + (i + 1) * 6) (n - (i + 1))) B) whole before L₀ target ws₀ ws k changed
-  going-pair op B g = going-same (pairs-next op ws₀ from n i B l (e ∙ read-there from n i (g .frame) d l few)) g
+    -- with a left zone that stands at `left`
+    pub going-applied : (op : Operation) {left : ℕ} → Operand ws₀ left target → {z : Zone} → z ≡ zoneAt ws left → Going (map (apply op (zoneAt ws₀ left)) (listAt ws₀ (from + i * 6) (n - i))) whole before L₀ target ws₀ ws k changed
+        → {r : MaybeZone} → apply op z y ≡ r → Going (r ∷ map (apply op (zoneAt ws₀ left)) (listAt ws₀ (from + (i + 1) * 6) (n - (i + 1)))) whole before L₀ target ws₀ ws k changed
+    going-applied op {left} o f g q = going-next (apply op (zoneAt ws₀ left)) g (ap (λ (x : Zone). apply op x y) (sym (f ∙ zone-kept left (g .frame) (o .apart))) ∙ q)
+
+  -- as a left zone, with all of a slot
+  pub going-pair : (op : Operation) (right m : ℕ) → Disjoint right target → m ≤ 128 → Going (pairs op (listAt ws₀ (from + i * 6) (n - i)) (listAt ws₀ right m)) whole before L₀ target ws₀ ws k changed
+      → Going (map (apply op (zoneAt ws (from + i * 6))) (listAt ws right m) ++ pairs op (listAt ws₀ (from + (i + 1) * 6) (n - (i + 1))) (listAt ws₀ right m)) whole before L₀ target ws₀ ws k changed
+  going-pair op right m dm few-m g =
+      going-same
+      (pairs-next op ws₀ from n i (listAt ws₀ right m) l (read-there from n i (g .frame) d l few)
+      ∙ ap (λ (B : List Zone). map (apply op (zoneAt ws (from + i * 6))) B ++ pairs op (listAt ws₀ (from + (i + 1) * 6) (n - (i + 1))) (listAt ws₀ right m)) (sym (list-there right m (g .frame) dm few-m)))
+      g

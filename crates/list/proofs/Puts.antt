@@ -1,20 +1,19 @@
 -- The three ways of a put.
 use mathlib.Core.Path.{_≡_, refl, sym, ap, subst, _∙_}
-use mathlib.Core.Bool.{Bool, true, false, cond}
+use mathlib.Core.Bool.{Bool, true, false}
 use mathlib.Core.List.{List, [], _∷_, _++_}
 use Prim.Native.Nat.{ℕ, _+_, _*_, _≤_, _<_}
 use native.Mathlib.Omega.{arith}
 use lib.IntN.{ℤ}
-use lib.Dec.{ltb}
 use lib.ListN.{length}
 use borrow.Author.Tests.{lt-ltb, le-ltb}
 use Rattle.zone.specs.declared.Zone.{Zone}
 use Rattle.zone.specs.declared.MaybeZone.the-variants.{Zone as zone}
 use Rattle.zone.specs.Words.{zoneAt, codes, overwrite}
 use Rattle.zone.proofs.Words.{written-zone}
-use Rattle.list.specs.Insert.{covered, outside, Put, away, placed, full, insert, insert-each}
+use Rattle.list.specs.Insert.{covered, outside, away, placed, full, insert, insert-each}
 use Rattle.list.specs.Slots.{listAt, Holds, Kept, Placement, InsertAs}
-use Rattle.list.specs.Steps.{Mark, GrownAs}
+use Rattle.list.specs.Steps.{GrownAs, AppendAs}
 use Rattle.list.specs.declared.Inserted.{Inserted}
 use Rattle.list.specs.declared.Inserted.the-variants.{Away, Placed, Full}
 use Rattle.list.specs.declared.Grown.{Grown}
@@ -42,10 +41,10 @@ pub held : (z : Zone) {us : List ℤ} (vs : List ℤ) → us ≡ overwrite vs 0 
 held z {us} vs e h = ap (λ (ws : List ℤ). zoneAt ws 0) e ∙ written-zone vs 0 z (omega arith)
 
 module _ (z : Zone) (ws : List ℤ) {us : List ℤ} (base n : ℕ) {m : ℕ} (new : covered z (listAt ws base n) ≡ false) (left : Holds us base m (outside z (listAt ws base n))) where
-  pub no-place : 128 ≤ m → insert z (listAt ws base n) ≡ full
+  no-place : 128 ≤ m → insert z (listAt ws base n) ≡ full
   no-place h = insert-full z (listAt ws base n) new (omega (arith, left .count))
 
-  pub placement : {vs : List ℤ} → Kept base 768 ws us → m < 128 → base + 768 ≤ length ws → vs ≡ overwrite us (base + m * 6) (codes z) → Placement z ws base n vs (m + 1)
+  placement : {vs : List ℤ} → Kept base 768 ws us → m < 128 → base + 768 ≤ length ws → vs ≡ overwrite us (base + m * 6) (codes z) → Placement z ws base n vs (m + 1)
   placement {vs} k h fits e =
       let room : base + 768 ≤ length us = omega (arith, k .same-length) in
       record {
@@ -54,6 +53,12 @@ module _ (z : Zone) (ws : List ℤ) {us : List ℤ} (base n : ℕ) {m : ℕ} (ne
         holds = subst (λ (xs : List ℤ). Holds xs base (m + 1) (outside z (listAt ws base n) ++ (z ∷ []))) (sym e) (holds-more z left h room);
         kept = subst (λ (xs : List ℤ). Kept base 768 ws xs) (sym e) (kept-trans k (kept-within (omega arith) (omega arith) (kept-written us (base + m * 6) z (omega arith))));
       }
+
+  -- z behind those that stay
+  pub appended : (vs : List ℤ) → Kept base 768 ws us → base + 768 ≤ length ws → (r : Inserted) → AppendAs z us base m vs r → InsertAs z ws base n vs r
+  appended vs k fits Away a = absurd a
+  appended vs k fits (Placed j) a = subst (Placement z ws base n vs) (sym (a .0)) (placement k (a .1) fits (a .2))
+  appended vs k fits Full a = (no-place (a .0), subst (λ (xs : List ℤ). Kept base 768 ws xs) (sym (a .1)) k)
 
 -- ---- a list that grows
 

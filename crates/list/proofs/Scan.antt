@@ -1,9 +1,9 @@
 -- The loops that go over a list once: what is left of it, and what the zone at hand decides.
 use mathlib.Core.Path.{_≡_, refl, sym, ap, subst, _∙_}
-use mathlib.Core.Bool.{Bool, true, false, not, cond, _||_}
-use mathlib.Core.Logic.{_⊎_, inl, inr}
+use mathlib.Core.Bool.{Bool, true, false, cond, _||_}
+use mathlib.Core.Logic.{inl, inr}
 use mathlib.Core.List.{List, [], _∷_, _++_, append-assoc, append-nil}
-use Prim.Native.Nat.{ℕ, zero, suc, _+_, _-_, _*_, _≤_, _<_}
+use Prim.Native.Nat.{ℕ, suc, _+_, _-_, _*_, _≤_, _<_}
 use native.Mathlib.Omega.{arith}
 use native.Mathlib.Numerals.{add-one}
 use lib.IntN.{ℤ}
@@ -14,43 +14,115 @@ use Rattle.zone.specs.Words.{zoneAt}
 use Rattle.list.specs.Insert.{covered, outside}
 use Rattle.zone.proofs.Words.{same-zone}
 use Rattle.list.specs.Slots.{listAt, Holds, Kept}
-use Rattle.list.specs.Steps.{Copied, KeepsAs, Sifting, LookAs, Alone}
-use Rattle.list.specs.declared.Look.the-variants.{Clear}
-use Rattle.list.proofs.Slots.{listAt-length, listAt-next, listAt-split, listAt-snoc, kept-refl, listAt-kept, listAt-copied, listAt-same, kept-trans, kept-within}
+use Rattle.list.specs.Steps.{Copied, KeepsAs, Sifting, Clear, Alone, LookAs}
+use Rattle.list.specs.declared.Look.{Look}
+use Rattle.list.specs.declared.Look.the-variants.{Held, Apart, One, Several}
+use Rattle.list.proofs.Slots.{listAt-length, listAt-next, listAt-split, listAt-snoc, kept-refl, listAt-kept, listAt-copied, kept-trans, kept-within}
 
 pub nothing-left : (ws : List ℤ) (a n i : ℕ) → n ≤ i → listAt ws a (n - i) ≡ []
 unfolding listAt
 nothing-left ws a n i h = let e : n - i ≡ 0 = omega arith in ap (listAt ws a) e
 
--- ---- whether a zone is covered
+-- ---- looking over a list, zone by zone
 
-module _ (z : Zone) (ws : List ℤ) (base n i : ℕ) where
-  rest : Bool
-  rest = covered z (listAt ws (base + i * 6) (n - i))
+covered-append : (z : Zone) (A B : List Zone) → covered z (A ++ B) ≡ covered z A || covered z B
+unfolding covered
+covered-append z [] B = refl
+covered-append z (y ∷ A) B = at (contains y z) (covered-append z A B)
+  where
+    at : (b : Bool) → covered z (A ++ B) ≡ covered z A || covered z B → b || covered z (A ++ B) ≡ (b || covered z A) || covered z B
+    at true e = refl
+    at false e = e
 
-  module _ {b total : Bool} (l : i < n) (e : b ≡ contains (zoneAt ws (base + i * 6)) z) (k : covered z (listAt ws (base + i * 6) (n - i)) ≡ total) where
-    step : total ≡ b || covered z (listAt ws (base + (i + 1) * 6) (n - (i + 1)))
-    unfolding covered
-    step = sym k ∙ ap (covered z) (listAt-next ws base n i l) ∙ ap (λ (c : Bool). c || covered z (listAt ws (base + (i + 1) * 6) (n - (i + 1)))) (sym e)
+outside-append : (z : Zone) (A B : List Zone) → outside z (A ++ B) ≡ outside z A ++ outside z B
+unfolding outside
+outside-append z [] B = refl
+outside-append z (y ∷ A) B = at (contains z y) (outside-append z A B)
+  where
+    at : (b : Bool) → outside z (A ++ B) ≡ outside z A ++ outside z B → cond b (outside z (A ++ B)) (y ∷ outside z (A ++ B)) ≡ cond b (outside z A) (y ∷ outside z A) ++ outside z B
+    at true e = e
+    at false e = ap (λ (L : List Zone). y ∷ L) e
 
-    pub covered-here : b ≡ true → true ≡ total
-    covered-here t = sym (step ∙ rw t)
+or-true : (b : Bool) → b || true ≡ true
+or-true true = refl
+or-true false = refl
 
-    pub covered-on : b ≡ false → covered z (listAt ws (base + (i + 1) * 6) (n - (i + 1))) ≡ total
-    covered-on f = sym (step ∙ rw f)
+-- a zone of the list that holds z
+pub held-here : (z : Zone) (ws : List ℤ) (base n i : ℕ) → i < n → contains (zoneAt ws (base + i * 6)) z ≡ true → covered z (listAt ws base n) ≡ true
+unfolding covered
+held-here z ws base n i h e =
+    let f : n ≡ i + (n - i) = omega arith in
+    ap (λ (m : ℕ). covered z (listAt ws base m)) f
+    ∙ ap (covered z) (listAt-split ws base i (n - i))
+    ∙ covered-append z (listAt ws base i) (listAt ws (base + i * 6) (n - i))
+    ∙ ap (λ (L : List Zone). covered z (listAt ws base i) || covered z L) (listAt-next ws base n i h)
+    ∙ rw e (or-true (covered z (listAt ws base i)))
 
-  pub covered-end : {total : Bool} → n ≤ i → covered z (listAt ws (base + i * 6) (n - i)) ≡ total → false ≡ total
+pub none-seen : (z : Zone) (ws : List ℤ) (base : ℕ) → Clear z ws base 0 0
+unfolding covered outside listAt
+none-seen z ws base = record { most = omega arith; new = refl; front = refl }
+
+module _ (z : Zone) (ws : List ℤ) (base i : ℕ) where
+  one-more : listAt ws base (i + 1) ≡ listAt ws base i ++ (zoneAt ws (base + i * 6) ∷ [])
+  one-more = ap (listAt ws base) (add-one i) ∙ listAt-snoc ws base i
+
+  covered-more : covered z (listAt ws base (i + 1)) ≡ covered z (listAt ws base i) || (contains (zoneAt ws (base + i * 6)) z || false)
   unfolding covered
-  covered-end h k = ap (covered z) (sym (nothing-left ws (base + i * 6) n i h)) ∙ k
+  covered-more = ap (covered z) one-more ∙ covered-append z (listAt ws base i) (zoneAt ws (base + i * 6) ∷ [])
+
+  outside-more : outside z (listAt ws base (i + 1)) ≡ outside z (listAt ws base i) ++ cond (contains z (zoneAt ws (base + i * 6))) [] (zoneAt ws (base + i * 6) ∷ [])
+  unfolding outside
+  outside-more = ap (outside z) one-more ∙ outside-append z (listAt ws base i) (zoneAt ws (base + i * 6) ∷ [])
+
+  pub still-held : covered z (listAt ws base i) ≡ true → covered z (listAt ws base (i + 1)) ≡ true
+  still-held e = covered-more ∙ rw e
+
+  pub still-clear : {k : ℕ} → contains (zoneAt ws (base + i * 6)) z ≡ false → Clear z ws base i k → Clear z ws base (i + 1) k
+  still-clear e c = record { most = omega (arith, c .most); new = covered-more ∙ rw (c .new, e); front = c .front }
+
+  -- a zone that is apart from z
+  pub look-on : (seen : Look) → contains (zoneAt ws (base + i * 6)) z ≡ false → contains z (zoneAt ws (base + i * 6)) ≡ false → LookAs z ws base i seen → LookAs z ws base (i + 1) seen
+  look-on Held e f l = still-held l
+  look-on Apart e f l = record { most = omega arith; new = covered-more ∙ rw (l .new, e); front = outside-more ∙ rw (f, l .front) (sym one-more) }
+  look-on (One k) e f l =
+      let m : i + 1 - k - 1 ≡ suc (i - k - 1) = omega (arith, l .some) in
+      let at : base + k * 6 + 6 + (i - k - 1) * 6 ≡ base + i * 6 = omega (arith, l .some) in
+      let tail : listAt ws (base + k * 6 + 6) (i + 1 - k - 1) ≡ listAt ws (base + k * 6 + 6) (i - k - 1) ++ (zoneAt ws (base + i * 6) ∷ []) =
+      ap (listAt ws (base + k * 6 + 6)) m ∙ listAt-snoc ws (base + k * 6 + 6) (i - k - 1) ∙ ap (λ (a : ℕ). listAt ws (base + k * 6 + 6) (i - k - 1) ++ (zoneAt ws a ∷ [])) at in
+      record {
+        some = omega (arith, l .some);
+        clear = still-clear e (l .clear);
+        left = outside-more ∙ rw (f, l .left) (append-assoc (listAt ws base k) (listAt ws (base + k * 6 + 6) (i - k - 1)) (zoneAt ws (base + i * 6) ∷ [])) ∙ ap (λ (L : List Zone). listAt ws base k ++ L) (sym tail);
+      }
+  look-on (Several k) e f l = still-clear e l
+
+  -- one that lies inside z
+  pub first-inside : contains (zoneAt ws (base + i * 6)) z ≡ false → contains z (zoneAt ws (base + i * 6)) ≡ true → Clear z ws base i i → Alone z ws base (i + 1) i
+  unfolding listAt
+  first-inside e f c =
+      let m : i + 1 - i - 1 ≡ 0 = omega arith in
+      record {
+        some = omega arith;
+        clear = still-clear e c;
+        left = outside-more ∙ rw (f, c .front, m);
+      }
+
+-- ---- what was seen, for the zones that stay
+
+pub sifted : {z : Zone} {ws : List ℤ} {base n k : ℕ} → Clear z ws base n k → Sifting z base n ws ws k k
+sifted {z} {ws} {base} {n} {k} c =
+    let f : n ≡ k + (n - k) = omega (arith, c .most) in
+    record {
+      fewer = omega arith;
+      most = c .most;
+      value = ap (λ (m : ℕ). outside z (listAt ws base m)) f ∙ ap (outside z) (listAt-split ws base k (n - k)) ∙ outside-append z (listAt ws base k) (listAt ws (base + k * 6) (n - k)) ∙ rw (c .front);
+      frame = kept-refl base 768 ws;
+    }
+
+pub all-stay : {z : Zone} {ws : List ℤ} {base n : ℕ} → Clear z ws base n n → n ≤ 128 → Holds ws base n (outside z (listAt ws base n))
+all-stay {z} {ws} {base} {n} c few = record { count = ap length (c .front) ∙ listAt-length ws base n; few = few; zones = sym (c .front) }
 
 -- ---- the zones outside a new one
-
-pub sift-start : (z : Zone) (base n : ℕ) (ws : List ℤ) → Sifting z base n ws ws 0 0
-unfolding listAt
-sift-start z base n ws =
-    let e : base + 0 * 6 ≡ base = omega arith in
-    let f : n - 0 ≡ n = omega arith in
-    record { fewer = omega arith; most = omega arith; value = rw (e, f); frame = kept-refl base 768 ws }
 
 module _ {z : Zone} {base n : ℕ} {ws₀ ws : List ℤ} {kept i : ℕ} (s : Sifting z base n ws₀ ws kept i) (l : i < n) (few : n ≤ 128) where
   rests : (b : Bool) → contains z (zoneAt ws (base + i * 6)) ≡ b
@@ -88,32 +160,6 @@ sift-end {z} {base} {n} {ws₀} {ws} {kept} {i} s h few =
     record { count = ap length e ∙ listAt-length ws base kept; few = omega (arith, s .fewer, s .most); zones = sym e }
 
 -- ---- one zone that gives way alone
-
-module _ {z : Zone} {base n k more : ℕ} {ws : List ℤ} (h : k < n) (few : n ≤ 128) (l : LookAs z ws base n (Clear k))
-    (rest : LookAs z ws (base + k * 6 + 6) (n - k - 1) (Clear more)) (all : n - k - 1 ≤ more) where
-  first : listAt ws (base + k * 6) (n - k) ≡ zoneAt ws (base + k * 6) ∷ listAt ws (base + k * 6 + 6) (n - k - 1)
-  first =
-      let e : base + (k + 1) * 6 ≡ base + k * 6 + 6 = omega arith in
-      let f : n - (k + 1) ≡ n - k - 1 = omega arith in
-      listAt-next ws base n k h ∙ (λ i. zoneAt ws (base + k * 6) ∷ listAt ws (e i) (f i))
-
-  alone-new : covered z (listAt ws base n) ≡ false
-  unfolding covered
-  alone-new =
-      let e = covered-end z ws (base + k * 6 + 6) (n - k - 1) more all (rest .0) in
-      sym (l .0) ∙ ap (covered z) first ∙ rw (l .2 h .outer, sym e)
-
-  stays : outside z (listAt ws (base + k * 6 + 6) (n - k - 1)) ≡ listAt ws (base + k * 6 + 6) (n - k - 1)
-  stays =
-      let e : more ≡ n - k - 1 = omega (arith, rest .1 .most) in
-      sym (sift-end (rest .1) all (omega arith) .zones) ∙ ap (listAt ws (base + k * 6 + 6)) e
-
-  alone-left : outside z (listAt ws base n) ≡ listAt ws base k ++ listAt ws (base + k * 6 + 6) (n - k - 1)
-  unfolding outside
-  alone-left = l .1 .value ∙ ap (λ (L : List Zone). listAt ws base k ++ outside z L) first ∙ rw (l .2 h .inside, stays)
-
-  pub alone : Alone z ws base n k
-  alone = record { some = h; new = alone-new; left = alone-left }
 
 -- the zones behind it have closed the gap
 module _ {z : Zone} {base n k : ℕ} {ws vs : List ℤ} (a : Alone z ws base n k) (few : n ≤ 128) (c : Copied (base + k * 6 + 6) (base + k * 6) ((n - k - 1) * 6) ws vs) where

@@ -7,7 +7,7 @@ use Prim.Native.Nat.{ℕ, zero, suc, _+_, _-_, _*_, _≤_, _<_}
 use native.Mathlib.Omega.{arith}
 use lib.Dec.{ltb}
 use lib.IntN.{ℤ, pos}
-use lib.ListN.{length, getD, set, length-set}
+use lib.ListN.{length, set, length-set}
 use lib.Seq.{getD-set-same, getD-set-other}
 use borrow.Author.Tests.{ltb-true, ltb-false}
 use Rattle.zone.specs.declared.Zone.{Zone}
@@ -106,6 +106,29 @@ listAt-split ws base (suc k) m =
     let e : suc k + m ≡ suc (k + m) = omega arith in
     let f : base + 6 + k * 6 ≡ base + suc k * 6 = omega arith in
     ap (listAt ws base) e ∙ ap (λ (L : List Zone). zoneAt ws base ∷ L) (listAt-split ws (base + 6) k m ∙ ap (λ (at : ℕ). listAt ws (base + 6) k ++ listAt ws at m) f)
+
+-- words copied in two goes, the second behind the first
+pub copied-on : {from to k m n : ℕ} {ws us vs : List ℤ} → Copied from to k ws us → Copied (from + k) (to + k) m us vs → (to ≤ from) ⊎ (from + n ≤ to) → k + m ≤ n → Copied from to (k + m) ws vs
+copied-on {from} {to} {k} {m} {n} {ws} {us} {vs} c d h l =
+    record {
+      moved = λ j g. ⊎-elim (λ b. d .kept .below (to + j) (omega arith) ∙ c .moved j b) (λ b. later j b g) (below-or-not j k);
+      kept =
+          record {
+            same-length = d .kept .same-length ∙ c .kept .same-length;
+            below = λ j g. d .kept .below j (omega arith) ∙ c .kept .below j g;
+            above = λ j g. d .kept .above j (omega arith) ∙ c .kept .above j (omega arith);
+          };
+    }
+  where
+    unmoved : (j : ℕ) → k ≤ j → j < k + m → (to ≤ from) ⊎ (from + n ≤ to) → word us (from + j) ≡ word ws (from + j)
+    unmoved j b g (inl e) = c .kept .above (from + j) (omega arith)
+    unmoved j b g (inr e) = c .kept .below (from + j) (omega arith)
+
+    later : (j : ℕ) → k ≤ j → j < k + m → word vs (to + j) ≡ word ws (from + j)
+    later j b g =
+        let e : to + k + (j - k) ≡ to + j = omega arith in
+        let f : from + k + (j - k) ≡ from + j = omega arith in
+        sym (ap (word vs) e) ∙ d .moved (j - k) (omega arith) ∙ ap (word us) f ∙ unmoved j b g h
 
 -- words that stand there already
 pub copied-there : {from to : ℕ} (n : ℕ) (ws : List ℤ) → from ≡ to → Copied from to n ws ws

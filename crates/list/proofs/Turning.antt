@@ -1,5 +1,5 @@
 -- The loop of a star's rounds, which go from one of two slots to the other.
-use mathlib.Core.Path.{_≡_, refl, sym, ap, subst, _∙_}
+use mathlib.Core.Path.{_≡_, refl, sym, subst, _∙_}
 use mathlib.Core.Logic.{_⊎_, inl, inr}
 use mathlib.Core.List.{List}
 use Prim.Native.Nat.{ℕ, suc, _+_, _-_, _*_, _≤_, _<_}
@@ -10,7 +10,7 @@ use lib.ListN.{length}
 use Rattle.zone.specs.declared.Zone.{Zone}
 use Rattle.zone.specs.Words.{word}
 use Rattle.list.specs.Insert.{listed, overfull}
-use Rattle.list.specs.Star.{Outcome, finished, burst, Rounds, round}
+use Rattle.list.specs.Star.{finished, burst, Rounds, round}
 use Rattle.list.specs.Slots.{listAt, Source, Holds, Kept, KeptBoth, Disjoint, Sound}
 use Rattle.list.specs.Steps.{Changes, Ending}
 use Rattle.list.proofs.Rounds.{After, After.begin as begin, After.turn as turn, after-proper, after-last, after-over}

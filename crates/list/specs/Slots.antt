@@ -1,6 +1,5 @@
 -- Lists of zones in the words of a buffer. A slot has room for 128 zones of six words.
 use mathlib.Core.Path.{_≡_}
-use mathlib.Core.Bool.{Bool, true, false}
 use mathlib.Core.Logic.{_⊎_}
 use mathlib.Core.List.{List, [], _∷_}
 use Prim.Native.Nat.{ℕ, zero, suc, _+_, _≤_, _<_}
@@ -11,8 +10,8 @@ use Rattle.zone.specs.declared.MaybeZone.{MaybeZone}
 use Rattle.zone.specs.declared.MaybeZone.the-variants.{Zone as zone, Empty as empty}
 use Rattle.zone.specs.Zone.{Proper}
 use Rattle.zone.specs.Words.{word, zoneAt}
-use Rattle.list.specs.Insert.{Put, away, placed, full, insert, Built, listed, overfull}
-use Rattle.list.specs.Star.{Outcome, finished, burst, Rounds, Star, round}
+use Rattle.list.specs.Insert.{away, placed, full, insert, Built, listed, overfull}
+use Rattle.list.specs.Star.{finished, burst, Star}
 use Rattle.list.specs.Pieces.{AllProper}
 use Rattle.list.specs.declared.Inserted.{Inserted}
 use Rattle.list.specs.declared.Inserted.the-variants.{Away, Placed, Full}

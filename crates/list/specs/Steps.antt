@@ -5,16 +5,22 @@ use mathlib.Core.Logic.{_⊎_}
 use mathlib.Core.List.{List, _++_}
 use Prim.Native.Nat.{ℕ, _+_, _-_, _*_, _≤_, _<_}
 use lib.IntN.{ℤ}
+use lib.ListN.{length}
 use Rattle.zone.specs.declared.Zone.{Zone}
-use Rattle.zone.specs.Words.{word, zoneAt}
-use Rattle.zone.specs.Zone.{contains}
+use Rattle.zone.specs.Words.{word, zoneAt, codes, overwrite}
+use Rattle.zone.specs.Zone.{contains, Proper, Ranged}
 use Rattle.zone.specs.declared.MaybeZone.{MaybeZone}
+use Rattle.zone.specs.declared.MaybeZone.the-variants.{Zone as zone, Empty as empty}
 use Rattle.list.specs.Insert.{covered, outside, Built, listed, overfull, insert-each}
-use Rattle.list.specs.Star.{Outcome, finished, burst, Rounds, round}
+use Rattle.list.specs.Star.{finished, burst, Rounds, round}
 use Rattle.list.specs.Pieces.{Covered}
 use Rattle.list.specs.Slots.{listAt, Holds, Kept}
 use Rattle.list.specs.declared.Look.{Look}
-use Rattle.list.specs.declared.Look.the-variants.{Held, Clear}
+use Rattle.list.specs.declared.Look.the-variants.{Held, Apart, One, Several}
+use Rattle.list.specs.declared.Applied.{Applied}
+use Rattle.list.specs.declared.Applied.the-variants.{Written, Empty}
+use Rattle.list.specs.declared.Inserted.{Inserted}
+use Rattle.list.specs.declared.Inserted.the-variants.{Away, Placed, Full}
 use Rattle.list.specs.declared.Grown.{Grown}
 use Rattle.list.specs.declared.Grown.the-variants.{Grew, TooMany}
 use Rattle.list.specs.declared.Round.{Round}
@@ -39,27 +45,54 @@ pub record Sifting (z : Zone) (base n : ℕ) (ws₀ ws : List ℤ) (kept i : ℕ
   pub value : outside z (listAt ws₀ base n) ≡ listAt ws base kept ++ outside z (listAt ws (base + i * 6) (n - i))
   pub frame : Kept base 768 ws₀ ws
 
--- zone k does not hold z and lies inside it
-pub record Gives (z y : Zone) : Type 0 where
-  pub outer : contains y z ≡ false
-  pub inside : contains z y ≡ true
+-- no listed zone holds z, and none of the first k lies inside it
+pub record Clear (z : Zone) (ws : List ℤ) (base n k : ℕ) : Type 0 where
+  pub most : k ≤ n
+  pub new : covered z (listAt ws base n) ≡ false
+  pub front : outside z (listAt ws base k) ≡ listAt ws base k
 
--- a listed zone holds z; or the first k zones neither hold z nor lie inside it, and the next one, if there is one, gives way
-abbrev pub LookAs : Zone → List ℤ → ℕ → ℕ → Look → Type 0
-LookAs z ws base n Held = covered z (listAt ws base n) ≡ true
-LookAs z ws base n (Clear k) =
-    (covered z (listAt ws (base + k * 6) (n - k)) ≡ covered z (listAt ws base n)) × Sifting z base n ws ws k k × (k < n → Gives z (zoneAt ws (base + k * 6)))
-
--- no listed zone holds z, and zone k alone lies inside it
+-- .. and of those behind them zone k alone does
 pub record Alone (z : Zone) (ws : List ℤ) (base n k : ℕ) : Type 0 where
   pub some : k < n
-  pub new : covered z (listAt ws base n) ≡ false
+  pub clear : Clear z ws base n k
   pub left : outside z (listAt ws base n) ≡ listAt ws base k ++ listAt ws (base + k * 6 + 6) (n - k - 1)
+
+-- a listed zone holds z; or none does, and of the n zones none, zone k alone, or several from zone k on lie inside it
+abbrev pub LookAs : Zone → List ℤ → ℕ → ℕ → Look → Type 0
+LookAs z ws base n Held = covered z (listAt ws base n) ≡ true
+LookAs z ws base n Apart = Clear z ws base n n
+LookAs z ws base n (One k) = Alone z ws base n k
+LookAs z ws base n (Several k) = Clear z ws base n k
+
+-- whatever list was seen so as far as its zone i, which does not hold z and lies inside it, is seen as r behind it
+abbrev pub AlsoAs : Look → ℕ → Look → Type 0
+AlsoAs seen i r = (z : Zone) (ws : List ℤ) (base : ℕ) → LookAs z ws base i seen → contains (zoneAt ws (base + i * 6)) z ≡ false → contains z (zoneAt ws (base + i * 6)) ≡ true → LookAs z ws base (i + 1) r
+
+-- z goes behind the first n zones, unless there are 128
+abbrev pub AppendAs : Zone → List ℤ → ℕ → ℕ → List ℤ → Inserted → Type 0
+AppendAs z ws base n vs Away = ⊥
+AppendAs z ws base n vs (Placed m) = (m ≡ n + 1) × (n < 128) × (vs ≡ overwrite ws (base + n * 6) (codes z))
+AppendAs z ws base n vs Full = (128 ≤ n) × (vs ≡ ws)
 
 -- whether puts changed the list S into M: a mark in the place of a comparison. A zone that was placed stays covered, and was not before
 abbrev pub Mark : Bool → List Zone → List Zone → Type 0
 Mark false S M = M ≡ S
 Mark true S M = (x : Zone) × Covered x M × ¬ Covered x S
+
+-- an answer whose limits the words have room for
+abbrev pub Writable : MaybeZone → Type 0
+Writable answer = (z : Zone) → answer ≡ zone z → Ranged 1_000_000 z
+
+-- an operation's answer, in words: a zone, and its words stand at the front of vs; or it is empty
+abbrev pub AppliedAs : MaybeZone → List ℤ → Applied → Type 0
+AppliedAs answer vs Written = answer ≡ zone (zoneAt vs 0)
+AppliedAs answer vs Empty = answer ≡ empty
+
+-- the words from `at` on are a zone that is combined with others, and the slot at `target` has none of them
+pub record Operand (ws : List ℤ) (at target : ℕ) : Type 0 where
+  pub room : at + 6 ≤ length ws
+  pub sound : Proper 0 1_000_000 (zoneAt ws at)
+  pub apart : (at + 6 ≤ target) ⊎ (target + 768 ≤ at)
 
 -- the list L, grown by puts that come to `built`; a mark that said whether some list S has changed into L now says it of the new list
 pub record Growth (built : Built) (before : Bool) (L : List Zone) (vs : List ℤ) (target n : ℕ) (changed : Bool) : Type 0 where

@@ -4,9 +4,9 @@
 // specs/ has a definition of the same name for each rule, over plain lists of zones; specs/Slots.antt says how a slot
 // holds a list. The zones that are combined are tight and inside 0..1,000,000, which every rule keeps.
 use zone::MaybeZone;
+use zone::Nesting;
 use zone::Zone;
 ghost use mathlib.Core.Path.{_≡_};
-ghost use mathlib.Core.Bool.{true};
 ghost use mathlib.Core.Logic.{_⊎_};
 ghost use mathlib.Core.List.{[], _∷_, map};
 ghost use Prim.Native.Nat.{_+_, _*_, _≤_, _<_};
@@ -14,11 +14,10 @@ ghost use lib.ListN.{length};
 ghost use Rattle.zone.specs.declared.MaybeZone.the-variants.{Zone as zone};
 ghost use Rattle.zone.specs.Words.{zoneAt};
 ghost use Rattle.zone.specs.Zone.{Proper, Ranged, contains, diagonal};
-ghost use Rattle.list.specs.Insert.{covered, outside};
+ghost use Rattle.list.specs.Insert.{outside};
 ghost use Rattle.list.specs.Operators.{apply, pairs, union, meets, compositions, banded};
 ghost use Rattle.list.specs.Slots.{listAt, Slot, Source, Holds, Kept, KeptBoth, Disjoint, SoundBand, InsertAs, BuiltAs, StarAs};
-ghost use Rattle.list.specs.declared.Look.the-variants.{Clear};
-ghost use Rattle.list.specs.Steps.{Copied, KeepsAs, Sifting, LookAs, Alone, GrowsAs, RoundAs, EndsAs};
+ghost use Rattle.list.specs.Steps.{Copied, KeepsAs, Sifting, LookAs, AlsoAs, AppendAs, Writable, AppliedAs, Operand, GrowsAs, RoundAs, EndsAs};
 
 // What a put comes to: turned away, placed with the new count, or a list that would have 129 zones.
 pub enum Inserted {
@@ -51,10 +50,19 @@ enum Grown {
     TooMany,
 }
 
-// What a new zone meets in a list: a zone that holds it, or so many at the front that neither hold it nor lie inside it.
+// Whether an operation left a zone, whose six words it has then written.
+enum Applied {
+    Written,
+    Empty,
+}
+
+// What a new zone meets in a list: a zone that holds it; else only zones apart from it; or one inside it, at this place;
+// or several, from this place on.
 enum Look {
     Held,
-    Clear(usize),
+    Apart,
+    One(usize),
+    Several(usize),
 }
 
 // A round: it changed nothing, or the new list has so many zones.
@@ -86,53 +94,51 @@ fn copy_words(words: &mut [i32], from: usize, to: usize, n: usize)
     }
 }
 
-// Whether the zone of six words w lies inside a listed one.
-fn covered(words: &[i32], base: usize, count: usize, w: &[i32]) -> bool
-    requires { ⌜ (count ≤ 128) × (base + count * 6 ≤ length (now words)) × (6 ≤ length (now w)) ⌝ }
-    ensures { λ r. ⌜ r ≡ covered (zoneAt (now (w .entry)) 0) (listAt (now (words .entry)) base count) ⌝ }
+// Copies n zones to a place before them, or to one past their end. Most lists are short, and go zone by zone in fewer
+// steps than in one go.
+fn copy_zones(words: &mut [i32], from: usize, to: usize, n: usize)
+    requires { ⌜ (from + n * 6 ≤ length (now words)) × (to + n * 6 ≤ length (now words)) × ((to ≤ from) ⊎ (from + n * 6 ≤ to)) ⌝ }
+    ensures { λ _. ⌜ Copied from to (n * 6) (now (words .entry)) (now (words .exit)) ⌝ }
 {
-    let mut i = 0;
-    while i < count {
-        if zone::included(w, 0, words, base + i * 6) {
-            return true;
-        }
-        i += 1;
+    let mut k = 0;
+    while k < n {
+        copy_words(words, from + k * 6, to + k * 6, 6);
+        k += 1;
     }
-    false
 }
 
-// Goes over a list up to the first zone that holds the one of six words w, or lies inside it.
+// What has been seen, with zone i inside the new one as well.
+fn also(seen: Look, i: usize) -> Look
+    ensures { λ r. ⌜ AlsoAs seen i r ⌝ }
+{
+    match seen {
+        Look::Held => Look::Held,
+        Look::Apart => Look::One(i),
+        Look::One(k) => Look::Several(k),
+        Look::Several(k) => Look::Several(k),
+    }
+}
+
+// Goes over a list up to a zone that holds the one of six words w.
 fn look_over(words: &[i32], base: usize, count: usize, w: &[i32]) -> Look
     requires { ⌜ (count ≤ 128) × (base + count * 6 ≤ length (now words)) × (6 ≤ length (now w)) ⌝ }
     ensures { λ r. ⌜ LookAs (zoneAt (now (w .entry)) 0) (now (words .entry)) base count r ⌝ }
 {
+    let mut seen = Look::Apart;
     let mut i = 0;
     while i < count {
-        let at = base + i * 6;
-        if zone::included(w, 0, words, at) {
-            return Look::Held;
-        }
-        if zone::included(words, at, w, 0) {
-            return Look::Clear(i);
+        match zone::nested(w, 0, words, base + i * 6) {
+            Nesting::Inside => {
+                return Look::Held;
+            }
+            Nesting::Around => {
+                seen = also(seen, i);
+            }
+            Nesting::Apart => {}
         }
         i += 1;
     }
-    Look::Clear(i)
-}
-
-// Whether there is a zone behind the first `clear`, and it alone gives way to the one of six words w.
-fn gives_way_alone(words: &[i32], base: usize, count: usize, clear: usize, w: &[i32]) -> bool
-    requires { ⌜ (Slot (now words) base count) × (6 ≤ length (now w)) × (LookAs (zoneAt (now w) 0) (now words) base count (Clear clear)) ⌝ }
-    ensures { λ r. ⌜ (r ≡ true → Alone (zoneAt (now (w .entry)) 0) (now (words .entry)) base count clear) ⌝ }
-{
-    if count <= clear {
-        return false;
-    }
-    let behind = count - clear - 1;
-    let Look::Clear(more) = look_over(words, base + clear * 6 + 6, behind, w) else {
-        return false;
-    };
-    behind <= more
+    seen
 }
 
 // Keeps the i-th zone, behind the first `kept`, unless it lies inside the one of six words w; answers how many are kept.
@@ -166,35 +172,36 @@ fn remove_inside(words: &mut [i32], base: usize, count: usize, clear: usize, w: 
     kept
 }
 
+// Puts the zone of six words w behind the first n of a slot, where there is room.
+fn append(words: &mut [i32], base: usize, n: usize, w: &[i32]) -> Inserted
+    requires { ⌜ (Slot (now words) base n) × (6 ≤ length (now w)) ⌝ }
+    ensures { λ r. ⌜ AppendAs (zoneAt (now (w .entry)) 0) (now (words .entry)) base n (now (words .exit)) r ⌝ }
+{
+    if 128 <= n {
+        return Inserted::Full;
+    }
+    zone::copy_zone(words, base + n * 6, w, 0);
+    Inserted::Placed(n + 1)
+}
+
 // Puts the zone of six words w into the list of a slot.
 fn insert_words(words: &mut [i32], base: usize, count: usize, w: &[i32]) -> Inserted
     requires { ⌜ (Slot (now words) base count) × (6 ≤ length (now w)) ⌝ }
     ensures { λ r. ⌜ InsertAs (zoneAt (now (w .entry)) 0) (now (words .entry)) base count (now (words .exit)) r ⌝ }
 {
-    // Most often no zone at all holds the new one or lies inside it, and this is the only scan.
-    let Look::Clear(clear) = look_over(words, base, count, w) else {
-        return Inserted::Away;
-    };
-    if gives_way_alone(words, base, count, clear, w) {
-        // The distance is fixed, so that the zones behind it move many words at once.
-        copy_words(
-            words,
-            base + clear * 6 + 6,
-            base + clear * 6,
-            (count - clear - 1) * 6,
-        );
-        zone::copy_zone(words, base + (count - 1) * 6, w, 0);
-        return Inserted::Placed(count);
+    match look_over(words, base, count, w) {
+        Look::Held => Inserted::Away,
+        Look::Apart => append(words, base, count, w),
+        Look::One(k) => {
+            // The distance is fixed, so that the zones behind it move many words at once.
+            copy_words(words, base + k * 6 + 6, base + k * 6, (count - k - 1) * 6);
+            append(words, base, count - 1, w)
+        }
+        Look::Several(k) => {
+            let kept = remove_inside(words, base, count, k, w);
+            append(words, base, kept, w)
+        }
     }
-    if covered(words, base + clear * 6, count - clear, w) {
-        return Inserted::Away;
-    }
-    let kept = remove_inside(words, base, count, clear, w);
-    if 128 <= kept {
-        return Inserted::Full;
-    }
-    zone::copy_zone(words, base + kept * 6, w, 0);
-    Inserted::Placed(kept + 1)
 }
 
 // Puts a zone into the list of a slot.
@@ -223,56 +230,61 @@ fn grow(words: &mut [i32], target: usize, count: usize, changed: bool, w: &[i32]
     }
 }
 
-// The meet or the composition of two zones.
-fn apply(op: Operation, z: Zone, w: Zone) -> MaybeZone
-    requires { ⌜ (Ranged 1_000_000 z) × (Ranged 1_000_000 w) ⌝ }
-    ensures { λ r. ⌜ r ≡ apply op z w ⌝ }
+// Writes the words of an operation's answer, where it is a zone.
+fn write_some(answer: MaybeZone, out: &mut [i32]) -> Applied
+    requires { ⌜ (6 ≤ length (now out)) × (Writable answer) ⌝ }
+    ensures { λ r. ⌜ AppliedAs answer (now (out .exit)) r ⌝ }
+{
+    let MaybeZone::Zone(v) = answer else {
+        return Applied::Empty;
+    };
+    zone::write_zone(out, 0, v);
+    Applied::Written
+}
+
+// The meet or the composition of two zones, by its words. Each is coded where it is worked out: where the two came
+// together as zones, their limits would be packed and taken apart again.
+fn apply(op: Operation, z: Zone, w: Zone, out: &mut [i32]) -> Applied
+    requires { ⌜ (6 ≤ length (now out)) × (Proper 0 1_000_000 z) × (Proper 0 1_000_000 w) ⌝ }
+    ensures { λ r. ⌜ AppliedAs (apply op z w) (now (out .exit)) r ⌝ }
 {
     match op {
-        Operation::Meet => z.meet(w),
-        Operation::Compose => z.compose(w),
+        Operation::Meet => write_some(z.meet(w), out),
+        Operation::Compose => write_some(z.compose(w), out),
     }
 }
 
-// Puts a zone that was worked out, by its words.
-fn grow_by(words: &mut [i32], target: usize, count: usize, changed: bool, z: Zone) -> Grown
-    requires { ⌜ (Slot (now words) target count) × (Ranged 1_000_000 z) ⌝ }
-    ensures grown { λ r. ⌜ GrowsAs (zone z ∷ []) changed (now (words .entry)) target count (now (words .exit)) r ⌝ }
-    ensures kept { λ _. ⌜ Kept target 768 (now (words .entry)) (now (words .exit)) ⌝ }
-{
-    let mut w = [0i32; 6];
-    zone::write_zone(&mut w, 0, z);
-    grow(words, target, count, changed, &w)
-}
-
-// Puts z's meet or composition with each of the m zones of a slot; an empty one is passed over.
+// Puts the meet or the composition of the zone at `left` with each of the m zones of a slot; an empty one is passed
+// over. The left zone is read anew for each, so that no word of it is kept over a put.
 fn each_right(
     words: &mut [i32],
     op: Operation,
-    z: Zone,
+    left: usize,
     right: usize,
     m: usize,
     target: usize,
     count: usize,
     changed: bool,
 ) -> Grown
-    requires { ⌜ (Source (now words) right m) × (Slot (now words) target count) × (Disjoint right target) × (Proper 0 1_000_000 z) ⌝ }
-    ensures grown { λ r. ⌜ GrowsAs (map (apply op z) (listAt (now (words .entry)) right m)) changed (now (words .entry)) target count (now (words .exit)) r ⌝ }
+    requires { ⌜ (Operand (now words) left target) × (Source (now words) right m) × (Slot (now words) target count) × (Disjoint right target) ⌝ }
+    ensures grown { λ r. ⌜ GrowsAs (map (apply op (zoneAt (now (words .entry)) left)) (listAt (now (words .entry)) right m)) changed (now (words .entry)) target count (now (words .exit)) r ⌝ }
     ensures kept { λ _. ⌜ Kept target 768 (now (words .entry)) (now (words .exit)) ⌝ }
 {
+    let mut out = [0i32; 6];
     let mut n = count;
     let mut mark = changed;
     let mut j = 0;
     while j < m {
+        let z = zone::read_zone(words, left);
         let w = zone::read_zone(words, right + j * 6);
         j += 1;
-        let MaybeZone::Zone(v) = apply(op, z, w) else {
+        let Applied::Written = apply(op, z, w, &mut out) else {
             continue;
         };
         let Grown::Grew {
             count: k,
             changed: b,
-        } = grow_by(words, target, n, mark, v)
+        } = grow(words, target, n, mark, &out)
         else {
             return Grown::TooMany;
         };
@@ -305,11 +317,10 @@ fn each_pair(
     let mut mark = changed;
     let mut i = 0;
     while i < n {
-        let z = zone::read_zone(words, left + i * 6);
         let Grown::Grew {
             count: next,
             changed: b,
-        } = each_right(words, op, z, right, m, target, k, mark)
+        } = each_right(words, op, left + i * 6, right, m, target, k, mark)
         else {
             return Grown::TooMany;
         };
@@ -487,7 +498,7 @@ fn one_round(words: &mut [i32], list: usize, n: usize, inner: usize, m: usize, c
     ensures round { λ r. ⌜ RoundAs (listAt (now (words .entry)) inner m) (listAt (now (words .entry)) list n) (now (words .exit)) copy r ⌝ }
     ensures kept { λ _. ⌜ Kept copy 768 (now (words .entry)) (now (words .exit)) ⌝ }
 {
-    copy_words(words, list, copy, n * 6);
+    copy_zones(words, list, copy, n);
     let Grown::Grew { count, changed } = each_pair(
         words,
         Operation::Compose,
@@ -551,7 +562,7 @@ pub fn bring(words: &mut [i32], at: usize, n: usize, target: usize)
     if at == target {
         return;
     }
-    copy_words(words, at, target, n * 6);
+    copy_zones(words, at, target, n);
 }
 
 // `*`: the rounds, and then the diagonal of ticks from..to, into the list at `target`.
@@ -568,7 +579,7 @@ pub fn star(
     ensures closed { λ r. ⌜ StarAs (listAt (now (words .entry)) inner m) (diagonal from to) (now (words .exit)) target r ⌝ }
     ensures kept { λ _. ⌜ KeptBoth target scratch (now (words .entry)) (now (words .exit)) ⌝ }
 {
-    copy_words(words, inner, target, m * 6);
+    copy_zones(words, inner, target, m);
     let Ended::EndedAt {
         at,
         count: n,

@@ -1,16 +1,15 @@
 -- The zones to begin with: their members, and that they are tight.
-use mathlib.Core.Path.{_≡_, refl}
 use mathlib.Core.Logic.{_↔_}
 use Prim.Native.Nat.{ℕ, _+_, _*_, _<_, _≤_, max}
 use native.Mathlib.Omega.{arith}
 use borrow.Author.Needs.{needs}
-use lib.IntN.{ℤ, pos, negℤ, _-ℤ_}
-use Rattle.signed.proofs.Integers.{arithZ, neg, diff}
+use lib.IntN.{pos, negℤ}
+use Rattle.signed.proofs.Integers.{neg, diff}
 use Rattle.zone.specs.Time.{Time, origin, tick, _≤ᵀ_, _<ᵀ_, _≈ᵀ_}
-use Rattle.zone.specs.Limit.{Limit, AtMost, Below, Within, _≤ᴸ_, _⊕_, lesser, nought}
-use Rattle.zone.specs.Zone.{Zone, In, InMaybe, MaybeZone, run, diagonal, everything, limited, band}
-use Rattle.zone.proofs.Linear.{up, dn, un, lin-le, sum-ud, sum-un, nought-up, nought-dn, nought-un}
-use Rattle.zone.proofs.Order.{≤-refl, ≤-trans, lesser-l, lesser-r, lesser-of}
+use Rattle.zone.specs.Limit.{Limit, AtMost, Below, Within, _≤ᴸ_, _⊕_, nought}
+use Rattle.zone.specs.Zone.{Zone, In, InMaybe, run, diagonal, everything, limited, band}
+use Rattle.zone.proofs.Linear.{up, dn, un, lin-le, sum-ud, sum-un}
+use Rattle.zone.proofs.Order.{≤-trans, lesser-l, lesser-r, lesser-of}
 use Rattle.zone.proofs.Common.{within-widen, within-through, within-≤, within-<, within-to, within-from}
 use Rattle.zone.proofs.Closed.{Closed, ClosedMaybe}
 use Rattle.zone.proofs.Tighten.{tighten-is, tighten-tight}

@@ -1,18 +1,18 @@
 -- The laws of zones: the page that the crates above cite, so that none of them looks inside a limit. x, y and t are times num / den of
 -- any denominators.
 use mathlib.Core.Path.{_≡_, refl, sym, ap, subst, _∙_}
-use mathlib.Core.Bool.{Bool, true, false, _&&_}
+use mathlib.Core.Bool.{Bool, true, false, cond}
 use mathlib.Core.Logic.{_↔_}
-use Prim.Native.Nat.{ℕ, suc, _+_, _-_, _*_, _≤_, _<_}
+use Prim.Native.Nat.{ℕ, _+_, _-_, _*_, _≤_, _<_}
 use native.Mathlib.Omega.{arith}
 use lib.Dec.{T}
-use lib.IntN.{ℤ, pos, negℤ, _-ℤ_, _*ℤ_}
+use lib.IntN.{ℤ, pos, _-ℤ_, _*ℤ_}
 use lib.Signed.{leZ}
 use Rattle.signed.proofs.Integers.{arithZ, neg}
 use Rattle.zone.specs.Time.{Time, origin, tick, difference, scaled, _≤ᵀ_, _<ᵀ_, _≈ᵀ_}
-use Rattle.zone.specs.Limit.{Limit, AtMost, Below, Within, at-most, _≤ᴸ_, _⊕_, nought, code, decode, Small}
-use Rattle.zone.specs.Zone.{Zone, MaybeZone, zone, empty, In, InMaybe, Inside, Proper, Side, limit, upper, lower, Keeps, Loses, Tight, TightMaybe, tighten, meet, compose, contains, joined, run, diagonal, everything, band, Ranged}
-use Rattle.zone.proofs.Linear.{up, dn, un, sum-ud}
+use Rattle.zone.specs.Limit.{Limit, AtMost, Below, Within, at-most, _≤ᴸ_, nought, code, decode}
+use Rattle.zone.specs.Zone.{Zone, MaybeZone, zone, empty, In, InMaybe, Proper, Side, limit, upper, lower, Keeps, Loses, Tight, TightMaybe, tighten, meet, compose, contains, Nesting, nesting, inside, around, apart, joined, run, diagonal, everything, band, Ranged}
+use Rattle.zone.proofs.Linear.{up, dn, sum-ud}
 use Rattle.zone.proofs.Order as order
 use Rattle.zone.proofs.Times as times
 use Rattle.zone.proofs.Closed.{Closed}
@@ -195,6 +195,34 @@ same-zone? z w = go (contains z w) (contains w z) refl refl
     go true true p q = yes (contains-antisym z w (subst T (sym p) tt) (subst T (sym q) tt))
     go false b p q = no (λ e. subst T (ap (contains z) e ∙ p) (contains-refl z))
     go true false p q = no (λ e. subst T (ap (λ (v : Zone). contains v z) e ∙ q) (contains-refl z))
+
+-- how two zones lie, as inclusion both ways
+abbrev pub is-inside : Nesting → Bool
+is-inside inside = true
+is-inside around = false
+is-inside apart = false
+
+abbrev pub is-around : Nesting → Bool
+is-around inside = false
+is-around around = true
+is-around apart = false
+
+pub nesting-inside : (z w : Zone) {r : Nesting} → r ≡ nesting z w → contains w z ≡ is-inside r
+unfolding nesting
+nesting-inside z w e = go (contains w z) (contains z w) ∙ ap is-inside (sym e)
+  where
+    go : (p q : Bool) → p ≡ is-inside (cond p inside (cond q around apart))
+    go true q = refl
+    go false true = refl
+    go false false = refl
+
+pub nesting-around : (z w : Zone) {r : Nesting} → r ≡ nesting z w → contains w z ≡ false → contains z w ≡ is-around r
+unfolding nesting
+nesting-around z w e f = go (contains z w) ∙ ap (λ (p : Bool). is-around (cond p inside (cond (contains z w) around apart))) (sym f) ∙ ap is-around (sym e)
+  where
+    go : (q : Bool) → q ≡ is-around (cond false inside (cond q around apart))
+    go true = refl
+    go false = refl
 
 -- ==== 6. For the bound on rounds, and for the machine's numbers
 

@@ -1,15 +1,12 @@
 -- What the bound on the rounds of a star needs of composition: how the limit on the length grows from left to right. `span` is the whole
 -- number of that limit; `Extends z u` says that u may be z composed with more zones: only its limits on end and length may be higher.
-use mathlib.Core.Path.{_≡_, refl, sym, ap, subst, _∙_}
+use mathlib.Core.Path.{_≡_, refl, sym, subst}
 use mathlib.Core.Bool.{Bool, true, false}
-use mathlib.Core.Logic.{_↔_}
-use Prim.Native.Nat.{ℕ, zero, suc, _+_, _-_, _*_, _≤_, min}
+use Prim.Native.Nat.{ℕ, zero, suc, _+_, _-_, _≤_, min}
 use native.Mathlib.Omega.{arith}
-use lib.IntN.{pos, negℤ}
-use Rattle.signed.proofs.Integers.{neg}
-use Rattle.zone.specs.Limit.{Limit, AtMost, at-most, _≤ᴸ_, _⊕_, lesser, nought, value}
-use Rattle.zone.specs.Zone.{Zone, MaybeZone, zone, empty, where-room, joined, compose}
-use Rattle.zone.proofs.Linear.{up, dn, un, un-le, le-lin, lin-le, sum-ud, sum-un, one-side, nought-up, nought-dn, nought-un}
+use Rattle.zone.specs.Limit.{Limit, at-most, _≤ᴸ_, _⊕_, lesser, nought}
+use Rattle.zone.specs.Zone.{Zone, zone, empty, where-room, joined, compose}
+use Rattle.zone.proofs.Linear.{up, dn, un-le, le-lin, lin-le, sum-ud, sum-un, one-side, nought-up, nought-dn, nought-un}
 use Rattle.zone.proofs.Order.{≤-refl, ≤-trans, not≤, ⊕-mono, ⊕-comm, ⊕-assoc, lesser-l, lesser-r, lesser-of}
 use Rattle.zone.proofs.Closed.{Closed}
 use Rattle.zone.proofs.Tighten.{_⊑_, room-is}

@@ -1,16 +1,16 @@
 -- Limits as linear statements about natural numbers, the form that omega reads: the number of l is up l − dn l, and un l is 1 where l is
 -- not reached. Nothing above this file looks at a limit's number in another way.
-use mathlib.Core.Path.{_≡_, refl, _∙_}
+use mathlib.Core.Path.{_≡_, refl}
 use mathlib.Core.Bool.{Bool, true, false, not}
 use mathlib.Core.Logic.{_↔_}
 use Prim.Native.Nat.{ℕ, _+_, _*_, _≤_, max, min}
 use native.Mathlib.Omega.{arith}
 use lib.Dec.{T}
-use lib.IntN.{ℤ, pos, _+ℤ_, _-ℤ_, _*ℤ_}
+use lib.IntN.{ℤ, pos, _+ℤ_}
 use Rattle.signed.proofs.Integers.{arithZ, sum, diff, times, apart}
 use Rattle.signed.proofs.Integers as Z
-use Rattle.zone.specs.Time.{Time, difference, scaled}
-use Rattle.zone.specs.Limit.{Limit, AtMost, Below, Within, at-most, value, _≤ᴸ_, _⊕_, nought}
+use Rattle.zone.specs.Time.{Time}
+use Rattle.zone.specs.Limit.{Limit, AtMost, Below, Within, value, _≤ᴸ_, _⊕_, nought}
 
 unfoldable pub up : Limit → ℕ
 up l = Z.up (value l)

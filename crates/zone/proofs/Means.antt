@@ -1,9 +1,7 @@
 -- What the operations mean for members, in the form of the functions' contracts.
 use mathlib.Core.Path.{_≡_, sym, subst}
 use mathlib.Core.Bool.{Bool}
-use Rattle.zone.specs.Limit.{_≤ᴸ_, nought}
-use Rattle.zone.specs.Zone.{Zone, MaybeZone, TightMaybe, tighten, meet, compose, contains, Tightens, Meets, Composes, Contains}
-use Rattle.zone.proofs.Closed.{ClosedMaybe}
+use Rattle.zone.specs.Zone.{Zone, MaybeZone, tighten, meet, compose, contains, Tightens, Meets, Composes, Contains}
 use Rattle.zone.proofs.Tighten.{tighten-is, tighten-tight, meet-is, meet-tight}
 use Rattle.zone.proofs.Compose.{compose-is}
 use Rattle.zone.proofs.Join.{compose-tight}

@@ -1,16 +1,14 @@
 -- The numbers of a closed zone whose end is at most d lie between −d and d: what a program's integers have to hold. And what inside
 -- ticks from..to says of a closed zone's limits.
-use mathlib.Core.Path.{_≡_}
 use mathlib.Core.Logic.{_↔_}
-use Prim.Native.Nat.{ℕ, suc, _+_, _-_, _*_, _<_, _≤_, min}
+use Prim.Native.Nat.{ℕ, _+_, _-_, _≤_}
 use native.Mathlib.Omega.{arith}
-use lib.IntN.{ℤ, pos, negℤ}
-use lib.Signed.{mag}
-use Rattle.signed.proofs.Integers.{size, neg}
-use Rattle.zone.specs.Time.{Time, origin, tick, _≤ᵀ_}
-use Rattle.zone.specs.Limit.{Limit, AtMost, Below, Within, _≤ᴸ_, _⊕_, nought, value, Small}
-use Rattle.zone.specs.Zone.{Zone, In, Inside, Side, on-start, on-nstart, on-end, on-nend, on-length, on-nlength, limit, Ranged}
-use Rattle.zone.proofs.Linear.{up, dn, un, un-le, le-lin, sum-ud, one-side, nought-up, nought-dn}
+use lib.IntN.{pos, negℤ}
+use Rattle.signed.proofs.Integers.{size}
+use Rattle.zone.specs.Time.{origin}
+use Rattle.zone.specs.Limit.{Limit, AtMost, _≤ᴸ_, _⊕_, nought, value, Small}
+use Rattle.zone.specs.Zone.{Zone, Inside, on-nstart, on-end, limit, Ranged}
+use Rattle.zone.proofs.Linear.{up, dn, un-le, le-lin, sum-ud, one-side, nought-up, nought-dn}
 use Rattle.zone.proofs.Common.{within-widen, within-≤, within-to, within-from}
 use Rattle.zone.proofs.Closed.{Closed}
 use Rattle.zone.proofs.Sharp.{sharp, by-contra}

@@ -3,9 +3,8 @@ use Prim.Native.Nat.{ℕ, suc, _+_, _≤_}
 use native.Mathlib.Omega.{arith}
 use lib.IntN.{ℤ, pos, negℤ, _+ℤ_, _-ℤ_}
 use lib.Signed.{mag}
-use mathlib.Core.Path.{_≡_}
 use Rattle.signed.proofs.Integers.{arithZ, sum, diff, neg, size}
-use Rattle.zone.specs.Limit.{Limit, AtMost, Below, _⊕_, lesser, value, Small}
+use Rattle.zone.specs.Limit.{Limit, _⊕_, lesser, value, Small}
 use Rattle.zone.specs.Zone.{Zone, tighter, both, limited, everything, Ranged}
 use Rattle.zone.proofs.Linear.{sum-value}
 use Rattle.zone.proofs.Order.{lesser-of}

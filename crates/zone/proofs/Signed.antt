@@ -10,7 +10,7 @@ use mir.ValLaws.{sfits-le}
 use Rattle.signed.proofs.Integers.{arithZ, sum, diff, neg, size, half, times}
 use Rattle.signed.proofs.Machine.{back, fits-by}
 use Rattle.zone.specs.Limit.{Limit, AtMost, Below, Small, at-most, lesser, _⊕_, nought, code, decode}
-use Rattle.zone.proofs.Words.{decode-code, code-decode, decode-odd, decode-even, room-beside, sum-odd, sum-even}
+use Rattle.zone.proofs.Words.{decode-code, code-decode, decode-odd, decode-even, room-beside, excess-odd, excess-even}
 
 -- the sum that a call of `add` gives, kept in a local
 sum-back : {x y r : ℤ} → SFits w32 x → SFits w32 y → SFits w32 r → r ≡ toZ w32 (ofZ w32 x) +ℤ toZ w32 (ofZ w32 y) → toZ w32 (ofZ w32 r) ≡ x +ℤ y
@@ -104,25 +104,49 @@ module _ (m : Limit) {y : ℤ} (f : SFits w32 y) (q : y ≡ code m) (h : Small 4
 word-small : (a : ℤ) → Small 4_000_000 (decode a) → mag a ≤ 8_000_001
 word-small a h = subst (λ (x : ℤ). mag x ≤ 8_000_001) (code-decode a) (code-small (decode a) h)
 
--- and the same without its mark of being reached
-even-small : (a : ℤ) → Small 4_000_000 (decode a) → mag (shrZ a 2 *ℤ pos 2) ≤ 8_000_002
-even-small a h = omega (arithZ, times (shrZ a 2) 2, half a, size a, size (shrZ a 2 *ℤ pos 2), word-small a h)
+-- what the sum of two words has too much
+module _ {a b : ℤ} (f : SFits w32 a) (g : SFits w32 b) where
+  pub odd-is : ¬ (ofZ w32 (toZ w32 (ofZ w32 (shrZ (toZ w32 (ofZ w32 a)) 2)) *ℤ pos 2) ≡ ofZ w32 a) → pos 1 ≡ (a +ℤ b) -ℤ code (decode a ⊕ decode b)
+  odd-is n = excess-odd a b (λ e. n (rw (half-is f, e)))
 
-small-total : (x y : ℤ) → mag x ≤ 8_000_002 → mag y ≤ 8_000_002 → SFits w32 (x +ℤ y)
-small-total x y p q = fits-by (omega (arithZ, sum x y, size x, size y, size (x +ℤ y), p, q))
+  mark-small : mag (b -ℤ shrZ b 2 *ℤ pos 2) ≤ 1
+  mark-small = omega (arithZ, half b, times (shrZ b 2) 2, diff b (shrZ b 2 *ℤ pos 2), size (b -ℤ shrZ b 2 *ℤ pos 2))
 
+  mark : SFits w32 (b -ℤ shrZ b 2 *ℤ pos 2)
+  mark = fits-by (omega (arith, mark-small))
+
+  pub mark-fits : SFits w32 (toZ w32 (ofZ w32 b) -ℤ toZ w32 (ofZ w32 (toZ w32 (ofZ w32 (shrZ (toZ w32 (ofZ w32 b)) 2)) *ℤ pos 2)))
+  mark-fits = rw (whole-is g, back g) mark
+
+  mark-is : toZ w32 (ofZ w32 (toZ w32 (ofZ w32 b) -ℤ toZ w32 (ofZ w32 (toZ w32 (ofZ w32 (shrZ (toZ w32 (ofZ w32 b)) 2)) *ℤ pos 2)))) ≡ b -ℤ shrZ b 2 *ℤ pos 2
+  mark-is = rw (whole-is g, back g) (back mark)
+
+  pub even-is : ofZ w32 (toZ w32 (ofZ w32 (shrZ (toZ w32 (ofZ w32 a)) 2)) *ℤ pos 2) ≡ ofZ w32 a → let r = toZ w32 (ofZ w32 (toZ w32 (ofZ w32 b) -ℤ toZ w32 (ofZ w32 (toZ w32 (ofZ w32 (shrZ (toZ w32 (ofZ w32 b)) 2)) *ℤ pos 2)))) in (r ≡ (a +ℤ b) -ℤ code (decode a ⊕ decode b)) × (mag r ≤ 1)
+  even-is t = rw mark-is (excess-even a b (same-whole f t), mark-small)
+
+-- the sum of two words, less what it has too much
 module _ {a b : ℤ} (f : SFits w32 a) (g : SFits w32 b) (p : Small 4_000_000 (decode a)) (q : Small 4_000_000 (decode b)) where
-  pub odd-fits : SFits w32 (toZ w32 (ofZ w32 (toZ w32 (ofZ w32 (shrZ (toZ w32 (ofZ w32 a)) 2)) *ℤ pos 2)) +ℤ toZ w32 (ofZ w32 b))
-  odd-fits = rw (whole-is f, back g) (small-total (shrZ a 2 *ℤ pos 2) b (even-small a p) (omega (arith, word-small b q)))
+  total-small : mag (a +ℤ b) ≤ 16_000_003
+  total-small = omega (arithZ, sum a b, size a, size b, size (a +ℤ b), word-small a p, word-small b q)
 
-  pub odd-is : ¬ (ofZ w32 (toZ w32 (ofZ w32 (shrZ (toZ w32 (ofZ w32 a)) 2)) *ℤ pos 2) ≡ ofZ w32 a) → toZ w32 (ofZ w32 (toZ w32 (ofZ w32 (toZ w32 (ofZ w32 (shrZ (toZ w32 (ofZ w32 a)) 2)) *ℤ pos 2)) +ℤ toZ w32 (ofZ w32 b))) ≡ code (decode a ⊕ decode b)
-  odd-is n = rw (back odd-fits, whole-is f, back g) (sum-odd a b (λ e. n (rw (half-is f, e))))
+  total : SFits w32 (a +ℤ b)
+  total = fits-by (omega (arith, total-small))
 
-  pub even-fits : SFits w32 (toZ w32 (ofZ w32 (toZ w32 (ofZ w32 (shrZ (toZ w32 (ofZ w32 a)) 2)) *ℤ pos 2)) +ℤ toZ w32 (ofZ w32 (toZ w32 (ofZ w32 (shrZ (toZ w32 (ofZ w32 b)) 2)) *ℤ pos 2)))
-  even-fits = rw (whole-is f, whole-is g) (small-total (shrZ a 2 *ℤ pos 2) (shrZ b 2 *ℤ pos 2) (even-small a p) (even-small b q))
+  pub total-fits : SFits w32 (toZ w32 (ofZ w32 a) +ℤ toZ w32 (ofZ w32 b))
+  total-fits = rw (back f, back g) total
 
-  pub even-is : ofZ w32 (toZ w32 (ofZ w32 (shrZ (toZ w32 (ofZ w32 a)) 2)) *ℤ pos 2) ≡ ofZ w32 a → toZ w32 (ofZ w32 (toZ w32 (ofZ w32 (toZ w32 (ofZ w32 (shrZ (toZ w32 (ofZ w32 a)) 2)) *ℤ pos 2)) +ℤ toZ w32 (ofZ w32 (toZ w32 (ofZ w32 (shrZ (toZ w32 (ofZ w32 b)) 2)) *ℤ pos 2)))) ≡ code (decode a ⊕ decode b)
-  even-is t = rw (back even-fits, whole-is f, whole-is g) (sum-even a b (same-whole f t))
+  total-is : toZ w32 (ofZ w32 (toZ w32 (ofZ w32 a) +ℤ toZ w32 (ofZ w32 b))) ≡ a +ℤ b
+  total-is = rw (back f, back g) (back total)
+
+  less : (r : ℤ) → mag r ≤ 1 → SFits w32 ((a +ℤ b) -ℤ r)
+  less r s = fits-by (omega (arithZ, diff (a +ℤ b) r, size (a +ℤ b), size r, size ((a +ℤ b) -ℤ r), total-small, s))
+
+  pub less-fits : (r : ℤ) → SFits w32 r → mag r ≤ 1 → SFits w32 (toZ w32 (ofZ w32 (toZ w32 (ofZ w32 a) +ℤ toZ w32 (ofZ w32 b))) -ℤ toZ w32 (ofZ w32 r))
+  less-fits r k s = rw (total-is, back k) (less r s)
+
+  pub sum-is : (r : ℤ) → SFits w32 r → mag r ≤ 1 → r ≡ (toZ w32 (ofZ w32 a) +ℤ toZ w32 (ofZ w32 b)) -ℤ code (decode (toZ w32 (ofZ w32 a)) ⊕ decode (toZ w32 (ofZ w32 b)))
+      → toZ w32 (ofZ w32 (toZ w32 (ofZ w32 (toZ w32 (ofZ w32 a) +ℤ toZ w32 (ofZ w32 b))) -ℤ toZ w32 (ofZ w32 r))) ≡ code (decode a ⊕ decode b)
+  sum-is r k s e = rw (total-is, back k) (back (less r s) ∙ omega (arithZ, rw (back f, back g) at e, sum a b, diff (a +ℤ b) r, diff (a +ℤ b) (code (decode a ⊕ decode b))))
 
 -- what two calls on words kept in locals gave, kept in a local
 pub or-sum-is : {a b c s r : ℤ} → SFits w32 a → SFits w32 b → SFits w32 c → SFits w32 s → SFits w32 r → s ≡ code (decode (toZ w32 (ofZ w32 b)) ⊕ decode (toZ w32 (ofZ w32 c)))
@@ -136,11 +160,8 @@ word-kept l f e = ap decode (read-back f e) ∙ decode-code l
 pub small-kept : {x : ℤ} (l : Limit) → SFits w32 x → x ≡ code l → Small 4_000_000 l → Small 4_000_000 (decode (toZ w32 (ofZ w32 x)))
 small-kept l f e h = rw (word-kept l f e) h
 
-pub sum-kept : (l m : Limit) {x y r : ℤ} → SFits w32 x → SFits w32 y → SFits w32 r → x ≡ code l → y ≡ code m → r ≡ code (decode (toZ w32 (ofZ w32 x)) ⊕ decode (toZ w32 (ofZ w32 y))) → decode (toZ w32 (ofZ w32 r)) ≡ l ⊕ m
-sum-kept l m f g h p q e = word-kept (l ⊕ m) h (e ∙ rw (word-kept l f p, word-kept m g q))
-
-pub lesser-kept : (l m : Limit) {x y r : ℤ} → SFits w32 x → SFits w32 y → SFits w32 r → x ≡ code l → y ≡ code m → r ≡ code (lesser (decode (toZ w32 (ofZ w32 x))) (decode (toZ w32 (ofZ w32 y)))) → decode (toZ w32 (ofZ w32 r)) ≡ lesser l m
-lesser-kept l m f g h p q e = word-kept (lesser l m) h (e ∙ rw (word-kept l f p, word-kept m g q))
+pub both-kept : (f : Limit → Limit → Limit) (l m : Limit) {x y r : ℤ} → SFits w32 x → SFits w32 y → SFits w32 r → x ≡ code l → y ≡ code m → r ≡ code (f (decode (toZ w32 (ofZ w32 x))) (decode (toZ w32 (ofZ w32 y)))) → decode (toZ w32 (ofZ w32 r)) ≡ f l m
+both-kept f l m a b c p q e = word-kept (f l m) c (e ∙ rw (word-kept l a p, word-kept m b q))
 
 pub or-sum-kept : (l a b : Limit) {x y z r : ℤ} → SFits w32 x → SFits w32 y → SFits w32 z → SFits w32 r → x ≡ code l → y ≡ code a → z ≡ code b
     → r ≡ code (lesser (decode (toZ w32 (ofZ w32 x))) (decode (toZ w32 (ofZ w32 y)) ⊕ decode (toZ w32 (ofZ w32 z)))) → decode (toZ w32 (ofZ w32 r)) ≡ lesser l (a ⊕ b)

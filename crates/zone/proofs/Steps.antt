@@ -2,7 +2,7 @@
 use mathlib.Core.Path.{_≡_, refl, sym, ap, _∙_}
 use mathlib.Core.Bool.{Bool, true, false, not, cond, _&&_}
 use Rattle.zone.specs.Limit.{Limit, at-most, _⊕_, nought}
-use Rattle.zone.specs.Zone.{Zone, MaybeZone, zone, empty, where-room, tighter, tighten}
+use Rattle.zone.specs.Zone.{Zone, MaybeZone, zone, empty, where-room, tighter, tighten, contains, nesting, inside, around, apart}
 
 pub is-false : {b : Bool} → not b ≡ true → b ≡ false
 is-false {b = true} e = sym e
@@ -40,3 +40,13 @@ fails-before b e = ap (λ (a : Bool). a && b) e
 
 pub sixth-decides : {a b c d e : Bool} (f : Bool) → a ≡ true → b ≡ true → c ≡ true → d ≡ true → e ≡ true → f ≡ a && b && c && d && e && f
 sixth-decides f p q r s t = rw (p, q, r, s, t)
+
+-- a start that reaches further than the other's: that zone does not lie inside the other
+pub starts-decide : (z w : Zone) → at-most (w .start) (z .start) ≡ false → false ≡ contains z w
+starts-decide z w e =
+    fails-before (at-most (w .nlength) (z .nlength)) (fails-before (at-most (w .length) (z .length)) (fails-before (at-most (w .nend) (z .nend)) (fails-before (at-most (w .end) (z .end)) (fails-before (at-most (w .nstart) (z .nstart)) (sym e)))))
+
+-- what the tests of inclusion both ways say of how the zones lie
+pub nested-by : (z w : Zone) {p q : Bool} → p ≡ contains w z → q ≡ contains z w → cond p inside (cond q around apart) ≡ nesting z w
+unfolding nesting
+nested-by z w {q} e f = ap (λ (p : Bool). cond p inside (cond q around apart)) e ∙ ap (λ (q : Bool). cond (contains w z) inside (cond q around apart)) f

@@ -1,18 +1,18 @@
 -- Tight, which is said by its meaning, is the closed form on limits. So inclusion of zones is the order of their limits, and a tight zone
 -- is known by its members.
-use mathlib.Core.Path.{_≡_, refl, ap}
+use mathlib.Core.Path.{_≡_, ap}
 use mathlib.Core.Bool.{Bool, true, false, _&&_}
 use mathlib.Core.Logic.{_↔_}
-use Prim.Native.Nat.{_+_, _*_, _<_}
+use Prim.Native.Nat.{_*_, _<_}
 use native.Mathlib.Omega.{arith}
 use lib.Dec.{T}
 use lib.IntN.{pos, _-ℤ_}
 use Rattle.signed.proofs.Integers.{arithZ, diff}
-use Rattle.zone.specs.Time.{Time, origin, _≤ᵀ_}
-use Rattle.zone.specs.Limit.{Limit, AtMost, Below, Within, at-most, _≤ᴸ_, _⊕_, nought, value}
+use Rattle.zone.specs.Time.{Time, origin}
+use Rattle.zone.specs.Limit.{Limit, AtMost, Below, at-most, _≤ᴸ_, value}
 use Rattle.zone.specs.Zone.{Zone, In, MaybeZone, zone, empty, Side, on-start, on-nstart, on-end, on-nend, on-length, on-nlength, limit, Loses, Tight, TightMaybe, contains}
 use Rattle.zone.proofs.Linear.{up, dn, un, un-le, le-lin}
-use Rattle.zone.proofs.Common.{through, round, InOver, in-ground, both-den, within-through, within-widen, within-≤, from-0}
+use Rattle.zone.proofs.Common.{through, round, InOver, in-ground, both-den, within-through, within-≤, from-0}
 use Rattle.zone.proofs.Closed.{Closed, ClosedMaybe}
 use Rattle.zone.proofs.Tighten.{_⊑_, ⊑-in}
 use Rattle.zone.proofs.Sharp.{on, sharp, by-contra}

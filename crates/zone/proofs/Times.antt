@@ -1,13 +1,13 @@
 -- The order of times, of any denominators, and that a limit does not tell equal times apart.
-use mathlib.Core.Path.{_≡_, sym}
-use mathlib.Core.Logic.{_↔_, _⊎_, inl, inr}
+use mathlib.Core.Path.{sym}
+use mathlib.Core.Logic.{_⊎_, inl, inr}
 use Prim.Native.Nat.{ℕ, _*_, _≤_, _<_}
 use native.Mathlib.Decide.{decLe}
 use native.Mathlib.Omega.{arith}
 use Rattle.zone.specs.Time.{Time, origin, tick, _≤ᵀ_, _<ᵀ_, _≈ᵀ_}
-use Rattle.zone.specs.Limit.{Limit, AtMost, Within, _≤ᴸ_, _⊕_, nought}
+use Rattle.zone.specs.Limit.{Limit, Within, _≤ᴸ_, _⊕_, nought}
 use Rattle.zone.specs.Zone.{Zone, In}
-use Rattle.zone.proofs.Linear.{up, dn, un, lin-le, sum-ud, sum-un, nought-up, nought-dn, nought-un}
+use Rattle.zone.proofs.Linear.{lin-le, sum-ud, sum-un, nought-up, nought-dn, nought-un}
 use Rattle.zone.proofs.Common.{within-widen, within-through, within-≤}
 
 -- a way to or from an equal time adds nothing

@@ -1,6 +1,6 @@
 -- Words: coding and its order, and what a buffer holds after it was written to.
 use mathlib.Core.Path.{_≡_, refl, sym, ap, _∙_}
-use mathlib.Core.Bool.{Bool, true, false, cond, _&&_}
+use mathlib.Core.Bool.{Bool, true, false, cond}
 use mathlib.Core.List.{List, [], _∷_, _++_, append-assoc}
 use Prim.Native.Nat.{ℕ, suc, _+_, _-_, _≤_, _<_}
 use native.Mathlib.Omega.{arith}
@@ -8,11 +8,11 @@ use native.Mathlib.Nat.{add-zero}
 use lib.Dec.{T}
 use lib.IntN.{ℤ, pos, _+ℤ_, _-ℤ_, _*ℤ_}
 use lib.Signed.{leZ, ltZ, shrZ}
-use lib.ListN.{length, getD, set, take, drop, length-append, length-take, length-drop, List·getD-append}
+use lib.ListN.{length, set, take, drop, length-append, length-take, length-drop, List·getD-append}
 use lib.Seq.{sets-eq, length-take-le, getD-append-add, getD-take, getD-drop}
 use Rattle.signed.proofs.Integers.{arithZ, sum, diff, half, times}
 use Rattle.zone.specs.Limit.{Limit, AtMost, Below, at-most, lesser, _⊕_, nought, code, decode}
-use Rattle.zone.specs.Zone.{Zone, contains}
+use Rattle.zone.specs.Zone.{Zone}
 use Rattle.zone.specs.Words.{word, codes, zoneAt, overwrite}
 
 -- ---- the coding
@@ -93,11 +93,19 @@ unfolding _⊕_
 below-sum u (AtMost v) = rw (half-odd v) (omega (arithZ, times u 2, times v 2, times (u +ℤ v) 2, sum u v, sum (u *ℤ pos 2) (v *ℤ pos 2)))
 below-sum u (Below v) = rw (half-even v) (omega (arithZ, times u 2, times v 2, times (u +ℤ v) 2, sum u v, sum (u *ℤ pos 2) (v *ℤ pos 2)))
 
-pub sum-odd : (a b : ℤ) → ¬ (shrZ a 2 *ℤ pos 2 ≡ a) → shrZ a 2 *ℤ pos 2 +ℤ b ≡ code (decode a ⊕ decode b)
+sum-odd : (a b : ℤ) → ¬ (shrZ a 2 *ℤ pos 2 ≡ a) → shrZ a 2 *ℤ pos 2 +ℤ b ≡ code (decode a ⊕ decode b)
 sum-odd a b n = rw (decode-odd a n, ← reached-sum (shrZ a 2) (decode b), code-decode b)
 
-pub sum-even : (a b : ℤ) → shrZ a 2 *ℤ pos 2 ≡ a → shrZ a 2 *ℤ pos 2 +ℤ shrZ b 2 *ℤ pos 2 ≡ code (decode a ⊕ decode b)
+sum-even : (a b : ℤ) → shrZ a 2 *ℤ pos 2 ≡ a → shrZ a 2 *ℤ pos 2 +ℤ shrZ b 2 *ℤ pos 2 ≡ code (decode a ⊕ decode b)
 sum-even a b e = rw (decode-even a e, ← below-sum (shrZ a 2) (decode b), code-decode b)
+
+-- what the sum of the words has more than the word of the sum
+pub excess-odd : (a b : ℤ) → ¬ (shrZ a 2 *ℤ pos 2 ≡ a) → pos 1 ≡ (a +ℤ b) -ℤ code (decode a ⊕ decode b)
+excess-odd a b n = rw (← sum-odd a b n) (omega (arithZ, odd a _ refl n, half a, times (shrZ a 2) 2, sum a b, sum (shrZ a 2 *ℤ pos 2) b, diff (a +ℤ b) (shrZ a 2 *ℤ pos 2 +ℤ b)))
+
+pub excess-even : (a b : ℤ) → shrZ a 2 *ℤ pos 2 ≡ a → b -ℤ shrZ b 2 *ℤ pos 2 ≡ (a +ℤ b) -ℤ code (decode a ⊕ decode b)
+excess-even a b e =
+    rw (← sum-even a b e) (omega (arithZ, e, times (shrZ a 2) 2, times (shrZ b 2) 2, sum a b, diff b (shrZ b 2 *ℤ pos 2), sum (shrZ a 2 *ℤ pos 2) (shrZ b 2 *ℤ pos 2), diff (a +ℤ b) (shrZ a 2 *ℤ pos 2 +ℤ shrZ b 2 *ℤ pos 2)))
 
 -- the lesser limit has the lesser word
 pub lesser-word : (a b : ℤ) (t : Bool) → leZ a b ≡ t → cond t a b ≡ code (lesser (decode a) (decode b))

@@ -9,6 +9,8 @@ use Rattle.zone.specs.Limit.{Limit, AtMost, Below, Within, at-most, _≤
 pub use Rattle.zone.specs.declared.Zone.{Zone}
 pub use Rattle.zone.specs.declared.MaybeZone.{MaybeZone}
 pub use Rattle.zone.specs.declared.MaybeZone.the-variants.{Zone as zone, Empty as empty}
+pub use Rattle.zone.specs.declared.Nesting.{Nesting}
+pub use Rattle.zone.specs.declared.Nesting.the-variants.{Inside as inside, Around as around, Apart as apart}
 
 -- ---- members
 
@@ -151,6 +153,10 @@ abbrev pub contains : Zone → Zone → Bool
 contains z w =
     at-most (w .start) (z .start) && at-most (w .nstart) (z .nstart) && at-most (w .end) (z .end)
     && at-most (w .nend) (z .nend) && at-most (w .length) (z .length) && at-most (w .nlength) (z .nlength)
+
+-- how z lies to w: inside it, else around it, else neither
+unfoldable pub nesting : Zone → Zone → Nesting
+nesting z w = cond (contains w z) inside (cond (contains z w) around apart)
 
 -- ---- the zones to begin with, of ticks from..to
 

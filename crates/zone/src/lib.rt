@@ -6,10 +6,10 @@
 ghost use mathlib.Core.Path.{_≡_};
 ghost use Prim.Native.Nat.{_+_, _≤_, _<_};
 ghost use lib.ListN.{length};
-ghost use lib.IntN.{pos, negℤ, _+ℤ_};
+ghost use lib.IntN.{pos, negℤ, _+ℤ_, _-ℤ_};
 ghost use lib.Signed.{mag};
 ghost use Rattle.zone.specs.Limit.{at-most, lesser, _⊕_, nought, code, decode, Small};
-ghost use Rattle.zone.specs.Zone.{tighter, tighten, both, meet, joined, compose, contains, run, diagonal, everything, limited, band, Ranged, Tightens, Meets, Composes, Contains};
+ghost use Rattle.zone.specs.Zone.{tighter, tighten, both, meet, joined, compose, contains, nesting, run, diagonal, everything, limited, band, Ranged, Tightens, Meets, Composes, Contains};
 ghost use Rattle.zone.specs.Words.{word, codes, zoneAt, overwrite};
 
 // An upper limit: reached (non-strict) or not reached (strict), with its whole number.
@@ -32,6 +32,13 @@ pub struct Zone {
 pub enum MaybeZone {
     Zone(Zone),
     Empty,
+}
+
+// How one zone lies to another: inside it (or the same), around it, or neither.
+pub enum Nesting {
+    Inside,
+    Around,
+    Apart,
 }
 
 // The sum of two limits' numbers.
@@ -57,16 +64,22 @@ fn negative(n: u32) -> i32
     -positive(n)
 }
 
-// The sum of two limits, of their words: it is reached if both are.
+// What the sum of two words has more than the word of the sum, which is reached if both limits are: one where either is.
+fn excess(a: i32, b: i32) -> i32
+    ensures { λ r. ⌜ (r ≡ (a +ℤ b) -ℤ code (decode a ⊕ decode b)) × (mag r ≤ 1) ⌝ }
+{
+    if (a >> 1) * 2 != a {
+        return 1;
+    }
+    b - (b >> 1) * 2
+}
+
+// The sum of two limits, of their words.
 fn sum(a: i32, b: i32) -> i32
     requires { ⌜ (Small 4_000_000 (decode a)) × (Small 4_000_000 (decode b)) ⌝ }
     ensures { λ r. ⌜ r ≡ code (decode a ⊕ decode b) ⌝ }
 {
-    let even = (a >> 1) * 2;
-    if even != a {
-        return even + b; // a is reached: the sum is where b is
-    }
-    even + (b >> 1) * 2
+    a + b - excess(a, b)
 }
 
 // The lesser of two limits, of their words.
@@ -461,12 +474,18 @@ pub fn copy_zone(words: &mut [i32], at: usize, from: &[i32], i: usize)
     requires { ⌜ (at + 6 ≤ length (now words)) × (i + 6 ≤ length (now from)) ⌝ }
     ensures { λ _. ⌜ now (words .exit) ≡ overwrite (now (words .entry)) at (codes (zoneAt (now (from .entry)) i)) ⌝ }
 {
-    words[at] = from[i];
-    words[at + 1] = from[i + 1];
-    words[at + 2] = from[i + 2];
-    words[at + 3] = from[i + 3];
-    words[at + 4] = from[i + 4];
-    words[at + 5] = from[i + 5];
+    let s = from[i];
+    let ns = from[i + 1];
+    let e = from[i + 2];
+    let ne = from[i + 3];
+    let l = from[i + 4];
+    let nl = from[i + 5];
+    words[at] = s;
+    words[at + 1] = ns;
+    words[at + 2] = e;
+    words[at + 3] = ne;
+    words[at + 4] = l;
+    words[at + 5] = nl;
 }
 
 // Whether the limit of one word is at most that of another: the order of words is that of limits, so nothing is decoded.
@@ -477,7 +496,8 @@ fn word_at_most(inner: &[i32], i: usize, outer: &[i32], j: usize) -> bool
     inner[i] <= outer[j]
 }
 
-// Whether the tight zone whose words stand from `i` on in `inner` lies inside the one from `j` on in `outer`.
+// Whether the tight zone whose words stand from `i` on in `inner` lies inside the one from `j` on in `outer`. Of zones in
+// the rounds of a star that start alike it is the lengths that differ, so these are compared before the ends.
 pub fn included(inner: &[i32], i: usize, outer: &[i32], j: usize) -> bool
     requires { ⌜ (i + 6 ≤ length (now inner)) × (j + 6 ≤ length (now outer)) ⌝ }
     ensures value { λ r. ⌜ r ≡ contains (zoneAt (now (outer .entry)) j) (zoneAt (now (inner .entry)) i) ⌝ }
@@ -489,14 +509,42 @@ pub fn included(inner: &[i32], i: usize, outer: &[i32], j: usize) -> bool
     if !word_at_most(inner, i + 1, outer, j + 1) {
         return false;
     }
+    if !word_at_most(inner, i + 4, outer, j + 4) {
+        return false;
+    }
     if !word_at_most(inner, i + 2, outer, j + 2) {
         return false;
     }
     if !word_at_most(inner, i + 3, outer, j + 3) {
         return false;
     }
-    if !word_at_most(inner, i + 4, outer, j + 4) {
-        return false;
-    }
     word_at_most(inner, i + 5, outer, j + 5)
+}
+
+// How the tight zone whose words stand from `i` on in `a` lies to the one from `j` on in `b`. Of zones whose starts have
+// different upper limits only the one with the lower can lie inside the other, and the other way is not asked. A zone that
+// is put mostly comes behind those listed, so that this is asked first.
+pub fn nested(a: &[i32], i: usize, b: &[i32], j: usize) -> Nesting
+    requires { ⌜ (i + 6 ≤ length (now a)) × (j + 6 ≤ length (now b)) ⌝ }
+    ensures { λ r. ⌜ r ≡ nesting (zoneAt (now (a .entry)) i) (zoneAt (now (b .entry)) j) ⌝ }
+{
+    if !word_at_most(a, i, b, j) {
+        if included(b, j, a, i) {
+            return Nesting::Around;
+        }
+        return Nesting::Apart;
+    }
+    if !word_at_most(b, j, a, i) {
+        if included(a, i, b, j) {
+            return Nesting::Inside;
+        }
+        return Nesting::Apart;
+    }
+    if included(a, i, b, j) {
+        return Nesting::Inside;
+    }
+    if included(b, j, a, i) {
+        return Nesting::Around;
+    }
+    Nesting::Apart
 }

@@ -1,14 +1,12 @@
 use Rattle.list.proofs.Slots.{list-there, still-source}
 use Rattle.list.proofs.Answers.{listing, band-kept, band-alone, kept-both, kept-neither, sound-band}
 use Rattle.list.proofs.Puts.{holds-same}
-use Rattle.list.specs.Slots.{listAt, Sound, SoundBand}
-use Rattle.list.specs.Operators.{banded, pairs, Meet}
-use Rattle.list.specs.Insert.{insert-each}
+use Rattle.list.specs.Slots.{listAt, Sound}
+use Rattle.list.specs.Operators.{banded}
 use Rattle.zone.proofs.Laws.{ranged}
-use Rattle.zone.specs.declared.Zone.{Zone}
 use native.Mathlib.Omega.{arith}
-use mathlib.Core.List.{List, [], _∷_}
-use mathlib.Core.Path.{_≡_, refl, sym, ap, subst, _∙_}
+use mathlib.Core.List.{[]}
+use mathlib.Core.Path.{refl, sym, subst}
 use borrow.Author.Needs.{needs}
 use Rattle.list.proofs.band.Statement.{statement}
 use Rattle.list.proofs.band.Tie as tie

@@ -1,46 +1,36 @@
--- `look_over` meets its contract: the zones passed neither hold the new one nor lie inside it. Assumes nothing.
-use mathlib.Core.Path.{_≡_, refl, sym, _∙_}
-use Prim.Native.Nat.{_+_, _-_, _*_}
+-- `look_over` meets its contract: it holds at each place of the zones gone over so far. Assumes nothing.
+use mathlib.Core.Path.{_≡_, sym, _∙_}
+use mathlib.Core.Logic.{⊎-elim}
+use Prim.Native.Nat.{_-_, _≤_}
 use native.Mathlib.Omega.{arith}
 use Rattle.zone.specs.Words.{zoneAt}
-use Rattle.list.specs.Insert.{covered}
-use Rattle.list.specs.Slots.{listAt}
-use Rattle.list.specs.Steps.{Sifting}
-use Rattle.list.proofs.Slots.{copied-there}
-use Rattle.list.proofs.Scan.{covered-here, covered-on, sift-start, sift-step}
+use Rattle.zone.proofs.Laws.{nesting-inside, nesting-around}
+use Rattle.list.specs.Steps.{LookAs}
+use Rattle.list.proofs.Scan.{none-seen, held-here, look-on}
+use borrow.Author.Needs.{needs}
 use Rattle.list.proofs.look_over.Statement.{statement}
 use Rattle.list.proofs.look_over.Tie as tie
 
 abbrev Inv-loop : tie.InvT-loop
-Inv-loop words base count w i₀ i = (covered (zoneAt w 0) (listAt words (base + i * 6) (count - i)) ≡ covered (zoneAt w 0) (listAt words base count)) × Sifting (zoneAt w 0) base count words words i i
+Inv-loop words base count w seen₀ i₀ seen i = (i ≤ count) × LookAs (zoneAt w 0) words base i seen
 
 abbrev μ-loop : tie.MeasureT-loop
-μ-loop words base count w i₀ i = count - i
+μ-loop words base count w seen₀ i₀ seen i = count - i
 
 loop-holds : tie.Need-loop-holds Inv-loop μ-loop
-loop-holds c = let e : c .args .base + 0 * 6 ≡ c .args .base = omega arith in
-    let f : c .args .count - 0 ≡ c .args .count = omega arith in
-    (rw (e, f), sift-start _ _ _ _)
+loop-holds c = (omega arith, none-seen _ _ _)
 
-mul-at : tie.Need-mul-at Inv-loop μ-loop
-mul-at c = omega (arith, c .before .loop .inv .1 .most)
+mul-nested : tie.Need-mul-nested Inv-loop μ-loop
+mul-nested c = omega arith
 
-add-at : tie.Need-add-at Inv-loop μ-loop
-add-at c = omega (arith, c .before .loop .inv .1 .most)
+add-nested : tie.Need-add-nested Inv-loop μ-loop
+add-nested c = omega arith
 
-included-requires : tie.Need-included-requires Inv-loop μ-loop
-included-requires c κs = (omega arith, omega arith)
+nested-requires : tie.Need-nested-requires Inv-loop μ-loop
+nested-requires c κs = (omega arith, omega arith)
 
 returns : tie.Need-returns Inv-loop μ-loop
-returns c = sym (covered-here _ _ _ _ _ (c .before .before .loop-test .taken) (c .before .included .ensures .0) (c .before .before .before .loop .inv .0) (c .if1 .taken))
-
-included-requires-2 : tie.Need-included-requires-2 Inv-loop μ-loop
-included-requires-2 c κs = (omega arith, omega arith)
-
-returns-2 : tie.Need-returns-2 Inv-loop μ-loop
-returns-2 c =
-    let v = c .before .before .before .before .before .loop .inv in
-    (v .0, v .1, λ h. record { outer = sym (c .before .before .before .included .ensures .0) ∙ c .before .before .if1 .left; inside = sym (c .before .included2 .ensures .0) ∙ c .if2 .taken })
+returns c = held-here _ _ _ _ _ (c .before .before .before .loop-test .taken) (nesting-inside _ _ (sym (c .enum-told .given .1) ∙ c .before .before .nested .ensures))
 
 add-i : tie.Need-add-i Inv-loop μ-loop
 add-i c = omega arith
@@ -49,13 +39,24 @@ loop-less : tie.Need-loop-less Inv-loop μ-loop
 loop-less c = omega arith
 
 loop-again : tie.Need-loop-again Inv-loop μ-loop
-loop-again c = (
-  covered-on _ _ _ _ _ (c .before .before .before .before .loop-test .taken) (c .before .before .before .included .ensures .0) (c .before .before .before .before .before .loop .inv .0) (c .before .before .if1 .left),
-  sift-step (c .before .before .before .before .before .loop .inv .1) (c .before .before .before .before .loop-test .taken) (c .before .before .before .before .before .before .pre .0) (rw (← c .before .included2 .ensures .0, c .if2 .left) (refl, copied-there 6 _ refl)),
-)
+loop-again c =
+    let z = zoneAt (c .before .before .before .before .args .w .now) 0 in
+    let ws = c .before .before .before .before .args .words .now in
+    let base = c .before .before .before .before .args .base in
+    let i = c .before .before .before .loop .i in
+    let seen = c .before .before .before .loop .seen in
+    let sofar = c .before .before .before .loop .inv .1 in (
+      omega arith,
+      ⊎-elim
+          (λ w. let e = sym (w .1 .given .1) ∙ c .before .nested .ensures in let f = nesting-inside _ _ e in rw (w .3) (w .2 .ensures z ws base sofar f (nesting-around _ _ e f)))
+          (λ w. let e = sym (w .1 .given .1) ∙ c .before .nested .ensures in let f = nesting-inside _ _ e in rw (w .2) (look-on z ws base i seen f (nesting-around _ _ e f) sofar))
+          (c .match .came),
+    )
 
-returns-3 : tie.Need-returns-3 Inv-loop μ-loop
-returns-3 c = let v = c .before .loop .inv in (v .0, v .1, λ h. absurd (omega (arith, c .loop-test .left)))
+returns-2 : tie.Need-returns-2 Inv-loop μ-loop
+returns-2 c =
+    let e : c .before .loop .i ≡ c .before .before .args .count = omega (arith, c .before .loop .inv .0, c .loop-test .left) in
+    rw (← e) (c .before .loop .inv .1)
 
 pub look-over-spec : {M : Type 1} → statement M
 look-over-spec =
@@ -64,13 +65,15 @@ look-over-spec =
     Inv-loop
     μ-loop
     loop-holds
-    mul-at
-    add-at
-    included-requires
+    mul-nested
+    add-nested
+    nested-requires
+    (λ c. search needs)
     returns
-    included-requires-2
-    returns-2
+    (λ c. search needs)
+    (λ c κs. search needs)
+    (λ c. search needs)
     add-i
     loop-less
     loop-again
-    returns-3)
+    returns-2)

@@ -1,32 +1,29 @@
 use Rattle.list.proofs.Slots.{kept-trans, still-source}
 use Rattle.list.proofs.Answers.{copy-kept, copy-order, round-is, round-changes, round-same}
-use Rattle.list.specs.Slots.{listAt, Sound, Disjoint}
 use native.Mathlib.Omega.{arith}
-use Prim.Native.Nat.{_+_, _*_, _≤_}
-use mathlib.Core.Logic.{_⊎_, inl, inr, ⊎-elim}
-use mathlib.Core.Path.{_≡_, sym, subst, _∙_}
+use mathlib.Core.Path.{sym, _∙_}
 use borrow.Author.Needs.{needs}
 use Rattle.list.proofs.one_round.Statement.{statement}
 use Rattle.list.proofs.one_round.Tie as tie
 
-copy-words-requires : tie.Need-copy-words-requires
-copy-words-requires c κs = (omega arith, omega arith, copy-order (c .before .pre .3) (c .before .pre .0 .few))
+copy-zones-requires : tie.Need-copy-zones-requires
+copy-zones-requires c κs = (omega arith, omega arith, copy-order (c .before .pre .3) (c .before .pre .0 .few))
 
 each-pair-requires : tie.Need-each-pair-requires
 each-pair-requires c κs =
-    let f = copy-kept (c .before .before .before .before .pre .0 .few) (c .before .before .copy-words .ensures) in
+    let f = copy-kept (c .before .before .before .before .pre .0 .few) (c .before .before .copy-zones .ensures) in
     (still-source _ _ (c .before .before .before .before .pre .0) f (c .before .before .before .before .pre .3), still-source _ _ (c .before .before .before .before .pre .1) f (c .before .before .before .before .pre .4), record { few = c .before .before .before .before .pre .0 .few; room = omega (arith, f .same-length, c .before .before .before .before .pre .2) }, c .before .before .before .before .pre .3, c .before .before .before .before .pre .4)
 
 returns : tie.Need-returns
-returns c = (sym (round-is (c .before .before .before .before .before .before .before .before .pre .0 .few) (c .before .before .before .before .before .before .before .before .pre .1 .few) (c .before .before .before .before .before .before .copy-words .ensures) (c .before .before .before .before .before .before .before .before .pre .3) (c .before .before .before .before .before .before .before .before .pre .4)) ∙ rw (c .enum-told .given .1) at (c .before .before .before .each-pair .ensures .0), kept-trans (copy-kept (c .before .before .before .before .before .before .before .before .pre .0 .few) (c .before .before .before .before .before .before .copy-words .ensures)) (c .before .before .before .each-pair .ensures .1))
+returns c = (sym (round-is (c .before .before .before .before .before .before .before .before .pre .0 .few) (c .before .before .before .before .before .before .before .before .pre .1 .few) (c .before .before .before .before .before .before .copy-zones .ensures) (c .before .before .before .before .before .before .before .before .pre .3) (c .before .before .before .before .before .before .before .before .pre .4)) ∙ rw (c .enum-told .given .1) at (c .before .before .before .each-pair .ensures .0), kept-trans (copy-kept (c .before .before .before .before .before .before .before .before .pre .0 .few) (c .before .before .before .before .before .before .copy-zones .ensures)) (c .before .before .before .each-pair .ensures .1))
 
 returns-2 : tie.Need-returns-2
-returns-2 c = (round-changes (c .before .before .before .before .before .before .before .before .before .before .pre .0 .few) (c .before .before .before .before .before .before .before .before .before .before .pre .1 .few) (c .before .before .before .before .before .before .before .before .copy-words .ensures) (c .before .before .before .before .before .before .before .before .before .before .pre .3) (c .before .before .before .before .before .before .before .before .before .before .pre .4) (rw (c .before .before .count .given .1) at (c .before .before .before .before .before .each-pair .ensures .0)) (c .if1 .taken), kept-trans (copy-kept (c .before .before .before .before .before .before .before .before .before .before .pre .0 .few) (c .before .before .before .before .before .before .before .before .copy-words .ensures)) (c .before .before .before .before .before .each-pair .ensures .1))
+returns-2 c = (round-changes (c .before .before .before .before .before .before .before .before .before .before .pre .0 .few) (c .before .before .before .before .before .before .before .before .before .before .pre .1 .few) (c .before .before .before .before .before .before .before .before .copy-zones .ensures) (c .before .before .before .before .before .before .before .before .before .before .pre .3) (c .before .before .before .before .before .before .before .before .before .before .pre .4) (rw (c .before .before .count .given .1) at (c .before .before .before .before .before .each-pair .ensures .0)) (c .if1 .taken), kept-trans (copy-kept (c .before .before .before .before .before .before .before .before .before .before .pre .0 .few) (c .before .before .before .before .before .before .before .before .copy-zones .ensures)) (c .before .before .before .before .before .each-pair .ensures .1))
 
 returns-3 : tie.Need-returns-3
-returns-3 c = (round-same (c .before .before .before .before .before .before .before .before .before .before .pre .0 .few) (c .before .before .before .before .before .before .before .before .before .before .pre .1 .few) (c .before .before .before .before .before .before .before .before .copy-words .ensures) (c .before .before .before .before .before .before .before .before .before .before .pre .3) (c .before .before .before .before .before .before .before .before .before .before .pre .4) (rw (c .before .before .count .given .1) at (c .before .before .before .before .before .each-pair .ensures .0)) (c .if1 .left), kept-trans (copy-kept (c .before .before .before .before .before .before .before .before .before .before .pre .0 .few) (c .before .before .before .before .before .before .before .before .copy-words .ensures)) (c .before .before .before .before .before .each-pair .ensures .1))
+returns-3 c = (round-same (c .before .before .before .before .before .before .before .before .before .before .pre .0 .few) (c .before .before .before .before .before .before .before .before .before .before .pre .1 .few) (c .before .before .before .before .before .before .before .before .copy-zones .ensures) (c .before .before .before .before .before .before .before .before .before .before .pre .3) (c .before .before .before .before .before .before .before .before .before .before .pre .4) (rw (c .before .before .count .given .1) at (c .before .before .before .before .before .each-pair .ensures .0)) (c .if1 .left), kept-trans (copy-kept (c .before .before .before .before .before .before .before .before .before .before .pre .0 .few) (c .before .before .before .before .before .before .before .before .copy-zones .ensures)) (c .before .before .before .before .before .each-pair .ensures .1))
 
 pub one-round-spec : {M : Type 1} → statement M
 one-round-spec =
     tie.close
-    (tie.spec (λ c. search needs) copy-words-requires each-pair-requires (λ c. search needs) (λ c. search needs) (λ c. search needs) returns (λ c. search needs) returns-2 (λ c. search needs) returns-3)
+    (tie.spec copy-zones-requires each-pair-requires (λ c. search needs) (λ c. search needs) (λ c. search needs) returns (λ c. search needs) returns-2 (λ c. search needs) returns-3)

@@ -1,11 +1,9 @@
 use mathlib.Core.List.{List}
-use mathlib.Core.Logic.{_⊎_, inl, inr, ⊎-map}
-use mathlib.Core.Path.{_≡_, sym, subst, _∙_}
+use mathlib.Core.Path.{sym, subst, _∙_}
 use native.Mathlib.Omega.{arith}
 use Rattle.zone.proofs.Laws.{ranged, ranged-more, proper-diagonal}
 use Rattle.zone.specs.Zone.{diagonal}
 use Rattle.zone.specs.declared.Zone.{Zone}
-use Rattle.list.specs.Slots.{listAt, Sound, KeptBoth}
 use Rattle.list.specs.Star.{Rounds, finished, burst, over-round}
 use Rattle.list.proofs.Answers.{copy-kept, copy-order, kept-one, both-trans, brought, ending-room, ending-apart, star-no-room, star-closed}
 use Rattle.list.proofs.Puts.{held}
@@ -14,12 +12,12 @@ use borrow.Author.Needs.{needs}
 use Rattle.list.proofs.star.Statement.{statement}
 use Rattle.list.proofs.star.Tie as tie
 
-copy-words-requires : tie.Need-copy-words-requires
-copy-words-requires c κs = (omega arith, omega arith, copy-order (c .before .pre .3) (c .before .pre .0 .few))
+copy-zones-requires : tie.Need-copy-zones-requires
+copy-zones-requires c κs = (omega arith, omega arith, copy-order (c .before .pre .3) (c .before .pre .0 .few))
 
 all-rounds-requires : tie.Need-all-rounds-requires
 all-rounds-requires c κs =
-    let f = copy-kept (c .before .before .before .before .pre .0 .few) (c .before .before .copy-words .ensures) in
+    let f = copy-kept (c .before .before .before .before .pre .0 .few) (c .before .before .copy-zones .ensures) in
     let same = list-there (c .before .before .before .before .args .inner) (c .before .before .before .before .args .m) f (c .before .before .before .before .pre .3) (c .before .before .before .before .pre .0 .few) in (
       still-source _ _ (c .before .before .before .before .pre .0) f (c .before .before .before .before .pre .3),
       omega (arith, f .same-length, c .before .before .before .before .pre .1),
@@ -27,18 +25,18 @@ all-rounds-requires c κs =
       c .before .before .before .before .pre .3,
       c .before .before .before .before .pre .4,
       c .before .before .before .before .pre .5,
-      listAt-copied (c .before .before .before .before .args .m) (c .before .before .copy-words .ensures) ∙ sym same,
+      listAt-copied (c .before .before .before .before .args .m) (c .before .before .copy-zones .ensures) ∙ sym same,
     )
 
 returns : tie.Need-returns
 returns c =
-    let f = copy-kept (c .before .before .before .before .before .before .before .before .pre .0 .few) (c .before .before .before .before .before .before .copy-words .ensures) in
+    let f = copy-kept (c .before .before .before .before .before .before .before .before .pre .0 .few) (c .before .before .before .before .before .before .copy-zones .ensures) in
     let same = list-there (c .before .before .before .before .before .before .before .before .args .inner) (c .before .before .before .before .before .before .before .before .args .m) f (c .before .before .before .before .before .before .before .before .pre .3) (c .before .before .before .before .before .before .before .before .pre .0 .few) in
     (over-round (subst (λ (I : List Zone). Rounds I I burst) same (rw (c .enum-told .given .1) at (c .before .before .before .all-rounds .ensures .0))), both-trans (kept-one f) (c .before .before .before .all-rounds .ensures .1))
 
 bring-requires : tie.Need-bring-requires
 bring-requires c κs =
-    let f = copy-kept (c .before .before .before .before .before .before .before .before .before .before .pre .0 .few) (c .before .before .before .before .before .before .before .before .copy-words .ensures) in
+    let f = copy-kept (c .before .before .before .before .before .before .before .before .before .before .pre .0 .few) (c .before .before .before .before .before .before .before .before .copy-zones .ensures) in
     let w = rw (c .before .before .at .given .1) at (c .before .before .before .before .before .all-rounds .ensures .0) in (
       w .holds .few,
       ending-room (w .place) (omega (arith, f .same-length, c .before .before .before .before .before .all-rounds .ensures .1 .same-length)) (omega (arith, f .same-length, c .before .before .before .before .before .all-rounds .ensures .1 .same-length)),
@@ -54,7 +52,7 @@ write-zone-requires c κs = (omega arith, rw (c .diagonal .ensures) (ranged-more
 
 grow-requires : tie.Need-grow-requires
 grow-requires c κs =
-    let f = copy-kept (c .before .before .before .before .before .before .before .before .before .before .before .before .before .before .before .before .before .before .pre .0 .few) (c .before .before .before .before .before .before .before .before .before .before .before .before .before .before .before .before .copy-words .ensures) in
+    let f = copy-kept (c .before .before .before .before .before .before .before .before .before .before .before .before .before .before .before .before .before .before .pre .0 .few) (c .before .before .before .before .before .before .before .before .before .before .before .before .before .before .before .before .copy-zones .ensures) in
     let w = rw (c .before .before .before .before .before .before .before .before .before .before .at .given .1) at (c .before .before .before .before .before .before .before .before .before .before .before .before .before .all-rounds .ensures .0) in (
       record { few = w .holds .few; room = omega (arith, f .same-length, c .before .before .before .before .before .before .before .before .before .before .before .before .before .all-rounds .ensures .1 .same-length, c .before .before .before .before .before .before .before .bring .ensures .1 .same-length, c .before .before .before .before .before .before .before .before .before .before .before .before .before .before .before .before .before .before .pre .1) },
       omega arith,
@@ -62,7 +60,7 @@ grow-requires c κs =
 
 returns-2 : tie.Need-returns-2
 returns-2 c =
-    let f = copy-kept (c .before .before .before .before .before .before .before .before .before .before .before .before .before .before .before .before .before .before .before .before .before .before .pre .0 .few) (c .before .before .before .before .before .before .before .before .before .before .before .before .before .before .before .before .before .before .before .before .copy-words .ensures) in
+    let f = copy-kept (c .before .before .before .before .before .before .before .before .before .before .before .before .before .before .before .before .before .before .before .before .before .before .pre .0 .few) (c .before .before .before .before .before .before .before .before .before .before .before .before .before .before .before .before .before .before .before .before .copy-zones .ensures) in
     let same = list-there (c .before .before .before .before .before .before .before .before .before .before .before .before .before .before .before .before .before .before .before .before .before .before .args .inner) (c .before .before .before .before .before .before .before .before .before .before .before .before .before .before .before .before .before .before .before .before .before .before .args .m) f (c .before .before .before .before .before .before .before .before .before .before .before .before .before .before .before .before .before .before .before .before .before .before .pre .3) (c .before .before .before .before .before .before .before .before .before .before .before .before .before .before .before .before .before .before .before .before .before .before .pre .0 .few) in
     let w = rw (c .before .before .before .before .before .before .before .before .before .before .before .before .before .before .at .given .1) at (c .before .before .before .before .before .before .before .before .before .before .before .before .before .before .before .before .before .all-rounds .ensures .0) in
     let r = subst (λ (I : List Zone). Rounds I I (finished (c .before .before .before .before .before .before .before .before .before .before .before .before .before .before .at .given .0 .1 .1 .0) (w .list))) same (w .value) in
@@ -72,11 +70,11 @@ returns-2 c =
     (star-no-room (diagonal (c .before .before .before .before .before .before .before .before .before .before .before .before .before .before .before .before .before .before .before .before .before .before .args .from) (c .before .before .before .before .before .before .before .before .before .before .before .before .before .before .before .before .before .before .before .before .before .before .args .to)) r _ _ _ h (rw (d, c .enum-told2 .given .1) at (c .before .before .before .grow .ensures .0)), k)
 
 same-length-3 : tie.Need-same-length-3
-same-length-3 c = c .before .before .before .before .grow .ensures .1 .same-length ∙ c .before .before .before .before .before .before .before .before .before .before .before .before .bring .ensures .1 .same-length ∙ c .before .before .before .before .before .before .before .before .before .before .before .before .before .before .before .before .before .before .all-rounds .ensures .1 .same-length ∙ copy-kept (c .before .before .before .before .before .before .before .before .before .before .before .before .before .before .before .before .before .before .before .before .before .before .before .pre .0 .few) (c .before .before .before .before .before .before .before .before .before .before .before .before .before .before .before .before .before .before .before .before .before .copy-words .ensures) .same-length
+same-length-3 c = c .before .before .before .before .grow .ensures .1 .same-length ∙ c .before .before .before .before .before .before .before .before .before .before .before .before .bring .ensures .1 .same-length ∙ c .before .before .before .before .before .before .before .before .before .before .before .before .before .before .before .before .before .before .all-rounds .ensures .1 .same-length ∙ copy-kept (c .before .before .before .before .before .before .before .before .before .before .before .before .before .before .before .before .before .before .before .before .before .before .before .pre .0 .few) (c .before .before .before .before .before .before .before .before .before .before .before .before .before .before .before .before .before .before .before .before .before .copy-zones .ensures) .same-length
 
 returns-3 : tie.Need-returns-3
 returns-3 c =
-    let f = copy-kept (c .before .before .before .before .before .before .before .before .before .before .before .before .before .before .before .before .before .before .before .before .before .before .before .pre .0 .few) (c .before .before .before .before .before .before .before .before .before .before .before .before .before .before .before .before .before .before .before .before .before .copy-words .ensures) in
+    let f = copy-kept (c .before .before .before .before .before .before .before .before .before .before .before .before .before .before .before .before .before .before .before .before .before .before .before .pre .0 .few) (c .before .before .before .before .before .before .before .before .before .before .before .before .before .before .before .before .before .before .before .before .before .copy-zones .ensures) in
     let same = list-there (c .before .before .before .before .before .before .before .before .before .before .before .before .before .before .before .before .before .before .before .before .before .before .before .args .inner) (c .before .before .before .before .before .before .before .before .before .before .before .before .before .before .before .before .before .before .before .before .before .before .before .args .m) f (c .before .before .before .before .before .before .before .before .before .before .before .before .before .before .before .before .before .before .before .before .before .before .before .pre .3) (c .before .before .before .before .before .before .before .before .before .before .before .before .before .before .before .before .before .before .before .before .before .before .before .pre .0 .few) in
     let w = rw (c .before .before .before .before .before .before .before .before .before .before .before .before .before .before .before .at .given .1) at (c .before .before .before .before .before .before .before .before .before .before .before .before .before .before .before .before .before .before .all-rounds .ensures .0) in
     let r = subst (λ (I : List Zone). Rounds I I (finished (c .before .before .before .before .before .before .before .before .before .before .before .before .before .before .before .at .given .0 .1 .1 .0) (w .list))) same (w .value) in
@@ -88,4 +86,4 @@ returns-3 c =
 pub star-spec : {M : Type 1} → statement M
 star-spec =
     tie.close
-    (tie.spec (λ c. search needs) copy-words-requires all-rounds-requires (λ c. search needs) (λ c. search needs) (λ c. search needs) returns bring-requires (λ c. search needs) diagonal-requires write-zone-requires (λ c. search needs) grow-requires (λ c. search needs) (λ c. search needs) (λ c. search needs) returns-2 same-length-3 returns-3)
+    (tie.spec copy-zones-requires all-rounds-requires (λ c. search needs) (λ c. search needs) (λ c. search needs) returns bring-requires (λ c. search needs) diagonal-requires write-zone-requires (λ c. search needs) grow-requires (λ c. search needs) (λ c. search needs) (λ c. search needs) returns-2 same-length-3 returns-3)

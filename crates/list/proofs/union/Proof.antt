@@ -1,8 +1,7 @@
 use Rattle.list.proofs.Slots.{kept-trans, list-there, still-source}
 use Rattle.list.proofs.Answers.{union-left-over, union-right-over, union-listing}
-use Rattle.list.specs.Slots.{listAt, Sound}
+use Rattle.list.specs.Slots.{listAt}
 use native.Mathlib.Omega.{arith}
-use mathlib.Core.Path.{_≡_, sym, subst}
 use borrow.Author.Needs.{needs}
 use Rattle.list.proofs.union.Statement.{statement}
 use Rattle.list.proofs.union.Tie as tie

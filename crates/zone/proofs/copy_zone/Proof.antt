@@ -8,29 +8,32 @@ use borrow.Author.Needs.{needs}
 use Rattle.zone.proofs.copy_zone.Statement.{statement}
 use Rattle.zone.proofs.copy_zone.Tie as tie
 
-slice-set-from-words-2 : tie.Need-slice-set-from-words-2
-slice-set-from-words-2 c = simp length-set (omega arith)
+slice-set-from-ns : tie.Need-slice-set-from-ns
+slice-set-from-ns c = simp length-set (omega arith)
 
-slice-set-from-words-3 : tie.Need-slice-set-from-words-3
-slice-set-from-words-3 c = simp length-set (omega arith)
+slice-set-from-e : tie.Need-slice-set-from-e
+slice-set-from-e c = simp length-set (omega arith)
 
-slice-set-from-words-4 : tie.Need-slice-set-from-words-4
-slice-set-from-words-4 c = simp length-set (omega arith)
+slice-set-from-ne : tie.Need-slice-set-from-ne
+slice-set-from-ne c = simp length-set (omega arith)
 
-slice-set-from-words-5 : tie.Need-slice-set-from-words-5
-slice-set-from-words-5 c = simp length-set (omega arith)
+slice-set-from-l : tie.Need-slice-set-from-l
+slice-set-from-l c = simp length-set (omega arith)
 
-slice-set-from-words-6 : tie.Need-slice-set-from-words-6
-slice-set-from-words-6 c = simp length-set (omega arith)
+slice-set-from-nl : tie.Need-slice-set-from-nl
+slice-set-from-nl c = simp length-set (omega arith)
 
 same-length : tie.Need-same-length
 same-length c = simp length-set
 
 returns : tie.Need-returns
 unfolding zoneAt
-returns c = rw (back {z = word (c .before .before .before .before .before .before .args .from .now) (c .before .before .before .before .before .before .args .i)} (record { sfits = c .before .before .before .before .before .words .given }), back {z = word (c .before .before .before .before .before .before .args .from .now) (c .before .before .before .before .before .before .args .i + 1)} (record { sfits = c .before .before .before .before .words2 .given }), back {z = word (c .before .before .before .before .before .before .args .from .now) (c .before .before .before .before .before .before .args .i + 2)} (record { sfits = c .before .before .before .words3 .given }), back {z = word (c .before .before .before .before .before .before .args .from .now) (c .before .before .before .before .before .before .args .i + 3)} (record { sfits = c .before .before .words4 .given }), back {z = word (c .before .before .before .before .before .before .args .from .now) (c .before .before .before .before .before .before .args .i + 4)} (record { sfits = c .before .words5 .given }), back {z = word (c .before .before .before .before .before .before .args .from .now) (c .before .before .before .before .before .before .args .i + 5)} (record { sfits = c .words6 .given }), code-decode (word (c .before .before .before .before .before .before .args .from .now) (c .before .before .before .before .before .before .args .i)), code-decode (word (c .before .before .before .before .before .before .args .from .now) (c .before .before .before .before .before .before .args .i + 1)), code-decode (word (c .before .before .before .before .before .before .args .from .now) (c .before .before .before .before .before .before .args .i + 2)), code-decode (word (c .before .before .before .before .before .before .args .from .now) (c .before .before .before .before .before .before .args .i + 3)), code-decode (word (c .before .before .before .before .before .before .args .from .now) (c .before .before .before .before .before .before .args .i + 4)), code-decode (word (c .before .before .before .before .before .before .args .from .now) (c .before .before .before .before .before .before .args .i + 5))) (six-stores _ _ _ _ _ _ _ _ (c .before .before .before .before .before .before .pre .0))
+returns c =
+    let ws = c .before .before .before .before .before .before .args .from .now in
+    let i = c .before .before .before .before .before .before .args .i in
+    rw (back {z = word ws i} (record { sfits = c .before .before .before .before .before .s .given }), back {z = word ws (i + 1)} (record { sfits = c .before .before .before .before .ns .given }), back {z = word ws (i + 2)} (record { sfits = c .before .before .before .e .given }), back {z = word ws (i + 3)} (record { sfits = c .before .before .ne .given }), back {z = word ws (i + 4)} (record { sfits = c .before .l .given }), back {z = word ws (i + 5)} (record { sfits = c .nl .given }), code-decode (word ws i), code-decode (word ws (i + 1)), code-decode (word ws (i + 2)), code-decode (word ws (i + 3)), code-decode (word ws (i + 4)), code-decode (word ws (i + 5))) (six-stores _ _ _ _ _ _ _ _ (c .before .before .before .before .before .before .pre .0))
 
 pub copy-zone-spec : {M : Type 1} → statement M
 copy-zone-spec =
     tie.close
-    (tie.spec (λ c. search needs) (λ c. search needs) (λ c. search needs) (λ c. search needs) (λ c. search needs) (λ c. search needs) (λ c. search needs) (λ c. search needs) (λ c. search needs) slice-set-from-words-2 (λ c. search needs) (λ c. search needs) (λ c. search needs) (λ c. search needs) (λ c. search needs) slice-set-from-words-3 (λ c. search needs) (λ c. search needs) (λ c. search needs) (λ c. search needs) (λ c. search needs) slice-set-from-words-4 (λ c. search needs) (λ c. search needs) (λ c. search needs) (λ c. search needs) (λ c. search needs) slice-set-from-words-5 (λ c. search needs) (λ c. search needs) (λ c. search needs) (λ c. search needs) (λ c. search needs) slice-set-from-words-6 same-length returns)
+    (tie.spec (λ c. search needs) (λ c. search needs) (λ c. search needs) (λ c. search needs) (λ c. search needs) (λ c. search needs) (λ c. search needs) (λ c. search needs) (λ c. search needs) (λ c. search needs) (λ c. search needs) (λ c. search needs) (λ c. search needs) (λ c. search needs) (λ c. search needs) (λ c. search needs) (λ c. search needs) (λ c. search needs) (λ c. search needs) (λ c. search needs) (λ c. search needs) slice-set-from-ns (λ c. search needs) (λ c. search needs) slice-set-from-e (λ c. search needs) (λ c. search needs) slice-set-from-ne (λ c. search needs) (λ c. search needs) slice-set-from-l (λ c. search needs) (λ c. search needs) slice-set-from-nl same-length returns)

@@ -2,7 +2,6 @@ use mathlib.Core.Path.{_∙_}
 use mathlib.Core.Bool.{true, false}
 use Rattle.signed.proofs.Machine.{back}
 use Rattle.zone.proofs.Words.{lesser-word}
-use borrow.Author.Needs.{needs}
 use Rattle.zone.proofs.lesser.Statement.{statement}
 use Rattle.zone.proofs.lesser.Tie as tie
 

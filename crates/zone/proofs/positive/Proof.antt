@@ -1,8 +1,6 @@
 use mir.ValLaws.{toZ-pos}
 use mir.Syntax.{w32}
 use native.Mathlib.Omega.{arith}
-use Prim.Native.Nat.{ℕ}
-use lib.IntN.{ℤ}
 use borrow.Author.Needs.{needs}
 use Rattle.zone.proofs.positive.Statement.{statement}
 use Rattle.zone.proofs.positive.Tie as tie

@@ -1,6 +1,5 @@
 use Rattle.zone.proofs.Ranges.{ranged-limited, ranged-everything}
 use Rattle.zone.specs.Zone.{Zone, tighten, limited, band}
-use Rattle.zone.specs.Limit.{Limit}
 use mathlib.Core.Path.{ap, _∙_}
 use borrow.Author.Needs.{needs}
 use Rattle.zone.proofs.Zone.band.Statement.{statement}

@@ -2,7 +2,7 @@ use Rattle.zone.proofs.Means.{contains-means}
 use Rattle.zone.proofs.Steps.{is-true, is-false, fails-here, fails-before, sixth-decides}
 use Rattle.zone.specs.Zone.{contains}
 use Rattle.zone.specs.Limit.{at-most}
-use mathlib.Core.Bool.{true, false, _&&_}
+use mathlib.Core.Bool.{false, _&&_}
 use mathlib.Core.Path.{_≡_, sym, _∙_}
 use borrow.Author.Needs.{needs}
 use Rattle.zone.proofs.Zone.contains.Statement.{statement}

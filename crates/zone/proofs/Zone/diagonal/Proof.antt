@@ -1,8 +1,6 @@
-use Rattle.zone.proofs.Signed.{read-back, small-back, small-negated, whole-back}
+use Rattle.zone.proofs.Signed.{read-back}
 use Rattle.zone.specs.Zone.{diagonal}
-use Rattle.zone.specs.Limit.{AtMost, Below}
-use native.Mathlib.Omega.{arith}
-use mathlib.Core.Path.{ap}
+use Rattle.zone.specs.Limit.{AtMost}
 use lib.IntN.{pos}
 use borrow.Author.Needs.{needs}
 use Rattle.zone.proofs.Zone.diagonal.Statement.{statement}

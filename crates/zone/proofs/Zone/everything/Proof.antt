@@ -1,8 +1,7 @@
 use Rattle.zone.proofs.Signed.{read-back, small-back, small-negated, whole-back}
 use Rattle.zone.specs.Zone.{everything}
-use Rattle.zone.specs.Limit.{AtMost, Below}
+use Rattle.zone.specs.Limit.{AtMost}
 use native.Mathlib.Omega.{arith}
-use mathlib.Core.Path.{ap}
 use lib.IntN.{pos}
 use borrow.Author.Needs.{needs}
 use Rattle.zone.proofs.Zone.everything.Statement.{statement}

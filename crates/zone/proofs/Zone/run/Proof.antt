@@ -2,7 +2,6 @@ use Rattle.zone.proofs.Signed.{read-back, small-back, small-negated, wh
 use Rattle.zone.specs.Zone.{run}
 use Rattle.zone.specs.Limit.{AtMost, Below}
 use native.Mathlib.Omega.{arith}
-use mathlib.Core.Path.{ap}
 use lib.IntN.{pos}
 use borrow.Author.Needs.{needs}
 use Rattle.zone.proofs.Zone.run.Statement.{statement}

@@ -1,10 +1,9 @@
 use Rattle.zone.proofs.Ranges.{ranged-tighter}
 use Rattle.zone.proofs.Means.{tighten-means}
 use Rattle.zone.proofs.Steps.{no-room, has-room, checked, tighten-checked}
-use Rattle.zone.specs.Zone.{zone, empty, tighten, where-room, Ranged}
+use Rattle.zone.specs.Zone.{zone, empty, tighten, where-room}
 use native.Mathlib.Omega.{arith}
-use Prim.Native.Nat.{_+_}
-use mathlib.Core.Path.{_≡_, refl, ap, _∙_}
+use mathlib.Core.Path.{_≡_, _∙_}
 use borrow.Author.Needs.{needs}
 use Rattle.zone.proofs.Zone.tighten.Statement.{statement}
 use Rattle.zone.proofs.Zone.tighten.Tie as tie
