@@ -33,7 +33,7 @@ impl Row {
 pub fn run() -> Result<(), String> {
     let proved = proved::linked();
     println!("Times in microseconds, the best of many calls, the two finders by turns.");
-    println!("Buffers are not cleared before a call: each finds them as the one before left them.");
+    println!("Both work in the same buffers, which are not cleared before a call.");
     println!("Both clear the first 16,384 work words themselves, which is part of every time.");
     if proved.is_none() {
         println!("The proved library is not linked (--features proved): plain times alone.");
@@ -93,7 +93,7 @@ fn print_row(row: &Row, proved: Option<Proved>) -> Result<(f64, Option<f64>), St
             return Err(format!("{}: {their_return:?}, not {returned:?}", row.name));
         }
     }
-    let best = by_turns(&mut plain, &mut theirs, proved);
+    let best = by_turns(&mut plain, proved);
     println!(
         "{:<44} {:>7} {:>5} {:>7} {}",
         row.name,
@@ -105,7 +105,7 @@ fn print_row(row: &Row, proved: Option<Proved>) -> Result<(f64, Option<f64>), St
     Ok(best)
 }
 
-/// A row with buffers of its own.
+/// A row with buffers for its calls.
 struct Bench<'a> {
     row: &'a Row,
     answer: Vec<i32>,
@@ -141,14 +141,15 @@ impl Bench<'_> {
 }
 
 /// Calls each finder over and over, a few times one and then the other, and keeps the best time
-/// of each in microseconds.
-fn by_turns(plain: &mut Bench, theirs: &mut Bench, proved: Option<Proved>) -> (f64, Option<f64>) {
+/// of each in microseconds. Both work in the same buffers: where a buffer stands in memory decides
+/// how fast its 65,536 bytes are cleared, and that is most of a short call.
+fn by_turns(bench: &mut Bench, proved: Option<Proved>) -> (f64, Option<f64>) {
     const TURNS: u32 = 5;
     let mut best = [f64::INFINITY; 2];
     for _ in 0..TURNS {
-        best[0] = best[0].min(best_of_many(|| plain.plain()));
+        best[0] = best[0].min(best_of_many(|| bench.plain()));
         if let Some(proved) = proved {
-            best[1] = best[1].min(best_of_many(|| theirs.proved(proved)));
+            best[1] = best[1].min(best_of_many(|| bench.proved(proved)));
         }
     }
     (best[0], proved.map(|_| best[1]))

@@ -17,7 +17,7 @@ pub struct Proved {
 }
 
 /// What `find` returns where it has no place for its counts.
-pub const NO_COUNTS: u32 = 12;
+pub const NO_COUNTS: u32 = u32::MAX;
 
 /// The proved library, if it is linked.
 pub fn linked() -> Option<Proved> {

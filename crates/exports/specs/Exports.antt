@@ -17,9 +17,9 @@ pub record Called (bytes text : List ℕ) (answer work : List ℤ) (counts : Lis
   pub demand2 : Demand2 bytes text outcome answer′
   pub demand3 : Demand3 bytes text outcome
 
--- none was made
+-- none was made, which the largest number says
 pub record Uncalled (answer work : List ℤ) (counts : List ℕ) (number : ℕ) (answer′ work′ : List ℤ) (counts′ : List ℕ) : Type 0 where
-  pub number-is : number ≡ 12
+  pub number-is : number ≡ 4_294_967_295
   pub answer-kept : answer′ ≡ answer
   pub work-kept : work′ ≡ work
   pub counts-kept : counts′ ≡ counts

@@ -6,7 +6,7 @@ ghost use Rattle.finder.specs.Outcome.{frontOf};
 ghost use Rattle.exports.specs.Exports.{Called, Uncalled};
 
 // `finder::find`, with its number as the answer and its zones and rounds in the first two counts. Where there is no room
-// for two counts no call is made, and the answer is 12, which is no refusal's number.
+// for two counts no call is made, and the answer is the largest number, which no refusal has.
 #[no_mangle]
 pub extern "C" fn zikpasho_find(
     recording: &[u8],
@@ -19,7 +19,7 @@ pub extern "C" fn zikpasho_find(
     ensures none { λ r. ⌜ (length (now (counts .entry)) < 2 → Uncalled (now (answer .entry)) (now (work .entry)) (now (counts .entry)) r (now (answer .exit)) (now (work .exit)) (now (counts .exit))) ⌝ }
 {
     if counts.len() < 2 {
-        return 12;
+        return 4_294_967_295;
     }
     let outcome = finder::find(recording, drill, answer, work);
     let told = outcome.returned();

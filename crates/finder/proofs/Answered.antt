@@ -10,8 +10,7 @@ use lib.ListN.{length, drop, length-append, length-drop, length-replicate, getD-
 use lib.Seq.{take-at, getD-append-add, getD-drop, ext-getD}
 use Rattle.zone.specs.declared.Zone.{Zone}
 use Rattle.zone.specs.Words.{word, codes, zoneAt}
-use Rattle.zone.proofs.Laws.{code-decode}
-use Rattle.zone.proofs.Words.{zone-of-codes}
+use Rattle.zone.proofs.Words.{zone-of-codes, zone-word}
 use Rattle.list.specs.Slots.{listAt}
 use Rattle.finder.specs.Outcome.{words, fronted, zeroed, frontOf}
 
@@ -82,16 +81,6 @@ zeroed-is n ws xs h e first later =
     (λ k p. later k (omega arith))
 
 -- The words of the zones of a slot are the slot's words.
-code-at : (ws : List ℤ) (base k : ℕ) → k < 6 → word (codes (zoneAt ws base)) k ≡ word ws (base + k)
-unfolding zoneAt
-code-at ws base zero h = code-decode (word ws base) ∙ ap (word ws) (omega arith)
-code-at ws base (suc zero) h = code-decode (word ws (base + 1))
-code-at ws base (suc (suc zero)) h = code-decode (word ws (base + 2))
-code-at ws base (suc (suc (suc zero))) h = code-decode (word ws (base + 3))
-code-at ws base (suc (suc (suc (suc zero)))) h = code-decode (word ws (base + 4))
-code-at ws base (suc (suc (suc (suc (suc zero))))) h = code-decode (word ws (base + 5))
-code-at ws base (suc (suc (suc (suc (suc (suc k)))))) h = absurd (omega arith)
-
 pub word-words : (ws : List ℤ) (base n k : ℕ) → k < n * 6 → word (words (listAt ws base n)) k ≡ word ws (base + k)
 unfolding words listAt
 word-words ws base zero k h = absurd (omega arith)
@@ -99,7 +88,7 @@ word-words ws base (suc n) k h = at (word-words ws (base + 6) n (k - 6)) (decLe 
   where
     at : (k - 6 < n * 6 → word (words (listAt ws (base + 6) n)) (k - 6) ≡ word ws (base + 6 + (k - 6))) → Dec (6 ≤ k)
         → word (codes (zoneAt ws base) ++ words (listAt ws (base + 6) n)) k ≡ word ws (base + k)
-    at more (no p) = List·getD-append (codes (zoneAt ws base)) (words (listAt ws (base + 6) n)) (pos 0) k (omega arith) ∙ code-at ws base k (omega arith)
+    at more (no p) = List·getD-append (codes (zoneAt ws base)) (words (listAt ws (base + 6) n)) (pos 0) k (omega arith) ∙ zone-word ws base k (omega arith)
     at more (yes p) =
         let q : 6 + (k - 6) ≡ k = omega arith in
         ap (word (codes (zoneAt ws base) ++ words (listAt ws (base + 6) n))) (sym q)

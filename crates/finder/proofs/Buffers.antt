@@ -8,8 +8,8 @@ use native.Mathlib.Omega.{arith}
 use lib.IntN.{ℤ, pos}
 use lib.ListN.{length, set, take, drop, replicate, length-replicate, replicate-append-replicate, length-drop}
 use lib.Seq.{take-suc, drop-cons, length-take-le, ext-getD, getD-drop}
-use Rattle.zone.specs.Words.{word, codes, zoneAt}
-use Rattle.zone.proofs.Laws.{code-decode}
+use Rattle.zone.specs.Words.{word}
+use Rattle.zone.proofs.Words.{zone-words}
 use Rattle.list.specs.Slots.{listAt, Kept}
 use Rattle.finder.specs.Outcome.{room, words, fronted, zeroed, cleared}
 
@@ -76,10 +76,6 @@ six ws a h =
     let t = next ws (a + 4) (a + 5) (omega arith) (omega arith) in
     let u = next ws (a + 5) (a + 6) (omega arith) (omega arith) in
     cc
-
-zone-words : (ws : List ℤ) (a : ℕ) → codes (zoneAt ws a) ≡ word ws a ∷ word ws (a + 1) ∷ word ws (a + 2) ∷ word ws (a + 3) ∷ word ws (a + 4) ∷ word ws (a + 5) ∷ []
-unfolding zoneAt
-zone-words ws a = simp code-decode
 
 -- the words of the zones of a list are those that hold it
 pub words-at : (ws : List ℤ) (base n : ℕ) → base + n * 6 ≤ length ws → words (listAt ws base n) ≡ take (n * 6) (drop base ws)

@@ -12,7 +12,7 @@ use lib.Seq.{getD-set-same, getD-set-other}
 use borrow.Author.Tests.{ltb-true, ltb-false}
 use Rattle.zone.specs.declared.Zone.{Zone}
 use Rattle.zone.specs.Words.{word, zoneAt, codes, overwrite}
-use Rattle.zone.proofs.Words.{same-zone, written-zone, overwrite-length, overwrite-below, overwrite-above}
+use Rattle.zone.proofs.Words.{same-zone, written-zone, zone-word, overwrite-length, overwrite-below, overwrite-in, overwrite-above}
 use Rattle.list.specs.Slots.{listAt, Slot, Source, Sound, Holds, Kept, Disjoint}
 use Rattle.list.specs.Steps.{Copied}
 
@@ -134,13 +134,9 @@ copied-on {from} {to} {k} {m} {n} {ws} {us} {vs} c d h l =
 pub copied-there : {from to : ℕ} (n : ℕ) (ws : List ℤ) → from ≡ to → Copied from to n ws ws
 copied-there {from} n ws e = subst (λ (at : ℕ). Copied from at n ws ws) e (record { moved = λ k h. refl; kept = kept-refl from n ws })
 
--- a word that is still to be copied has not been written
-unwritten : {from to n k : ℕ} {ws vs : List ℤ} → Copied from to k ws vs → (to ≤ from) ⊎ (from + n ≤ to) → k < n → word vs (from + k) ≡ word ws (from + k)
-unwritten c (inl h) l = c .kept .above _ (omega arith)
-unwritten c (inr h) l = c .kept .below _ (omega arith)
-
-pub copied-more : {from to n k : ℕ} {ws vs : List ℤ} → Copied from to k ws vs → (to ≤ from) ⊎ (from + n ≤ to) → k < n → to + n ≤ length vs → Copied from to (k + 1) ws (set vs (to + k) (word vs (from + k)))
-copied-more {from} {to} {n} {k} {ws} {vs} c h l fits =
+-- a word more, copied to a place before it: it has not been written yet
+pub copied-more : {from to k : ℕ} {ws vs : List ℤ} → Copied from to k ws vs → to ≤ from → to + k < length vs → Copied from to (k + 1) ws (set vs (to + k) (word vs (from + k)))
+copied-more {from} {to} {k} {ws} {vs} c h fits =
     record {
       moved = λ j g. ⊎-elim (λ b. other (to + j) (omega arith) ∙ c .moved j b) (λ b. here j (omega arith)) (below-or-not j k);
       kept =
@@ -157,12 +153,15 @@ copied-more {from} {to} {n} {k} {ws} {vs} c h l fits =
     here : (j : ℕ) → j ≡ k → word (set vs (to + k) (word vs (from + k))) (to + j) ≡ word ws (from + j)
     here j e =
         subst (λ (m : ℕ). word (set vs (to + k) (word vs (from + k))) (to + m) ≡ word ws (from + m)) (sym e)
-        (getD-set-same vs (to + k) (word vs (from + k)) (pos 0) (omega arith) ∙ unwritten c h l)
+        (getD-set-same vs (to + k) (word vs (from + k)) (pos 0) fits ∙ c .kept .above _ (omega arith))
 
 -- ---- a zone written behind the list
 
 pub kept-written : (ws : List ℤ) (at : ℕ) (z : Zone) → at + 6 ≤ length ws → Kept at 6 ws (overwrite ws at (codes z))
 kept-written ws at z h = record { same-length = overwrite-length ws at (codes z) h; below = overwrite-below ws at (codes z) h; above = overwrite-above ws at (codes z) h }
+
+pub copied-zone : (ws : List ℤ) (from to : ℕ) → to + 6 ≤ length ws → Copied from to 6 ws (overwrite ws to (codes (zoneAt ws from)))
+copied-zone ws from to h = record { moved = λ k l. overwrite-in ws to (codes (zoneAt ws from)) h k l ∙ zone-word ws from k l; kept = kept-written ws to (zoneAt ws from) h }
 
 pub holds-more : {ws : List ℤ} {base n : ℕ} {L : List Zone} (z : Zone) → Holds ws base n L → n < 128 → base + 768 ≤ length ws → Holds (overwrite ws (base + n * 6) (codes z)) base (n + 1) (L ++ (z ∷ []))
 holds-more {ws} {base} {n} {L} z h l fits =

@@ -57,7 +57,8 @@ pub record Alone (z : Zone) (ws : List ℤ) (base n k : ℕ) : Type 0 where
   pub clear : Clear z ws base n k
   pub left : outside z (listAt ws base n) ≡ listAt ws base k ++ listAt ws (base + k * 6 + 6) (n - k - 1)
 
--- a listed zone holds z; or none does, and of the n zones none, zone k alone, or several from zone k on lie inside it
+-- a listed zone holds z; or none does, and none of the n zones lies inside it, zone k alone does, or none of the first k does: the rest are to
+-- be gone through
 abbrev pub LookAs : Zone → List ℤ → ℕ → ℕ → Look → Type 0
 LookAs z ws base n Held = covered z (listAt ws base n) ≡ true
 LookAs z ws base n Apart = Clear z ws base n n

@@ -14,7 +14,7 @@ ghost use lib.ListN.{length};
 ghost use Rattle.zone.specs.declared.MaybeZone.the-variants.{Zone as zone};
 ghost use Rattle.zone.specs.Words.{zoneAt};
 ghost use Rattle.zone.specs.Zone.{Proper, Ranged, contains, diagonal};
-ghost use Rattle.list.specs.Insert.{outside};
+ghost use Rattle.list.specs.Insert.{outside, insert-each};
 ghost use Rattle.list.specs.Operators.{apply, pairs, union, meets, compositions, banded};
 ghost use Rattle.list.specs.Slots.{listAt, Slot, Source, Holds, Kept, KeptBoth, Disjoint, SoundBand, InsertAs, BuiltAs, StarAs};
 ghost use Rattle.list.specs.Steps.{Copied, KeepsAs, Sifting, LookAs, AlsoAs, AppendAs, Writable, AppliedAs, Operand, GrowsAs, RoundAs, EndsAs};
@@ -57,7 +57,7 @@ enum Applied {
 }
 
 // What a new zone meets in a list: a zone that holds it; else only zones apart from it; or one inside it, at this place;
-// or several, from this place on.
+// or several inside it, none of them before this place.
 enum Look {
     Held,
     Apart,
@@ -82,9 +82,9 @@ enum Ended {
     EndedOver,
 }
 
-// Copies n words to a place before them, or to one past their end.
+// Copies n words to a place before them.
 fn copy_words(words: &mut [i32], from: usize, to: usize, n: usize)
-    requires { ⌜ (from + n ≤ length (now words)) × (to + n ≤ length (now words)) × ((to ≤ from) ⊎ (from + n ≤ to)) ⌝ }
+    requires { ⌜ (from + n ≤ length (now words)) × (to ≤ from) ⌝ }
     ensures { λ _. ⌜ Copied from to n (now (words .entry)) (now (words .exit)) ⌝ }
 {
     let mut k = 0;
@@ -95,14 +95,14 @@ fn copy_words(words: &mut [i32], from: usize, to: usize, n: usize)
 }
 
 // Copies n zones to a place before them, or to one past their end. Most lists are short, and go zone by zone in fewer
-// steps than in one go.
+// steps than word by word.
 fn copy_zones(words: &mut [i32], from: usize, to: usize, n: usize)
     requires { ⌜ (from + n * 6 ≤ length (now words)) × (to + n * 6 ≤ length (now words)) × ((to ≤ from) ⊎ (from + n * 6 ≤ to)) ⌝ }
     ensures { λ _. ⌜ Copied from to (n * 6) (now (words .entry)) (now (words .exit)) ⌝ }
 {
     let mut k = 0;
     while k < n {
-        copy_words(words, from + k * 6, to + k * 6, 6);
+        zone::move_zone(words, from + k * 6, to + k * 6);
         k += 1;
     }
 }
@@ -120,8 +120,8 @@ fn also(seen: Look, i: usize) -> Look
 }
 
 // Goes over a list up to a zone that holds the one of six words w.
-fn look_over(words: &[i32], base: usize, count: usize, w: &[i32]) -> Look
-    requires { ⌜ (count ≤ 128) × (base + count * 6 ≤ length (now words)) × (6 ≤ length (now w)) ⌝ }
+fn look_over(words: &[i32], base: usize, count: usize, w: &[i32; 6]) -> Look
+    requires { ⌜ (count ≤ 128) × (base + count * 6 ≤ length (now words)) ⌝ }
     ensures { λ r. ⌜ LookAs (zoneAt (now (w .entry)) 0) (now (words .entry)) base count r ⌝ }
 {
     let mut seen = Look::Apart;
@@ -142,8 +142,8 @@ fn look_over(words: &[i32], base: usize, count: usize, w: &[i32]) -> Look
 }
 
 // Keeps the i-th zone, behind the first `kept`, unless it lies inside the one of six words w; answers how many are kept.
-fn keep_outside(words: &mut [i32], base: usize, i: usize, kept: usize, w: &[i32]) -> usize
-    requires { ⌜ (kept ≤ i) × (i < 128) × (base + 768 ≤ length (now words)) × (6 ≤ length (now w)) ⌝ }
+fn keep_outside(words: &mut [i32], base: usize, i: usize, kept: usize, w: &[i32; 6]) -> usize
+    requires { ⌜ (kept ≤ i) × (i < 128) × (base + 768 ≤ length (now words)) ⌝ }
     ensures { λ r. ⌜ KeepsAs (contains (zoneAt (now (w .entry)) 0) (zoneAt (now (words .entry)) (base + i * 6))) (base + i * 6) base kept (now (words .entry)) (now (words .exit)) r ⌝ }
 {
     if zone::included(words, base + i * 6, w, 0) {
@@ -152,14 +152,14 @@ fn keep_outside(words: &mut [i32], base: usize, i: usize, kept: usize, w: &[i32]
     if kept == i {
         return kept + 1; // it stands there already
     }
-    copy_words(words, base + i * 6, base + kept * 6, 6);
+    zone::move_zone(words, base + i * 6, base + kept * 6);
     kept + 1
 }
 
 // Removes the listed zones inside the one of six words w, none of which is among the first `clear`, the rest keeping
 // their order; answers how many are left.
-fn remove_inside(words: &mut [i32], base: usize, count: usize, clear: usize, w: &[i32]) -> usize
-    requires { ⌜ (Slot (now words) base count) × (6 ≤ length (now w)) × (Sifting (zoneAt (now w) 0) base count (now words) (now words) clear clear) ⌝ }
+fn remove_inside(words: &mut [i32], base: usize, count: usize, clear: usize, w: &[i32; 6]) -> usize
+    requires { ⌜ (Slot (now words) base count) × (Sifting (zoneAt (now w) 0) base count (now words) (now words) clear clear) ⌝ }
     ensures left { λ r. ⌜ Holds (now (words .exit)) base r (outside (zoneAt (now (w .entry)) 0) (listAt (now (words .entry)) base count)) ⌝ }
     ensures kept { λ _. ⌜ Kept base 768 (now (words .entry)) (now (words .exit)) ⌝ }
 {
@@ -173,8 +173,8 @@ fn remove_inside(words: &mut [i32], base: usize, count: usize, clear: usize, w: 
 }
 
 // Puts the zone of six words w behind the first n of a slot, where there is room.
-fn append(words: &mut [i32], base: usize, n: usize, w: &[i32]) -> Inserted
-    requires { ⌜ (Slot (now words) base n) × (6 ≤ length (now w)) ⌝ }
+fn append(words: &mut [i32], base: usize, n: usize, w: &[i32; 6]) -> Inserted
+    requires { ⌜ Slot (now words) base n ⌝ }
     ensures { λ r. ⌜ AppendAs (zoneAt (now (w .entry)) 0) (now (words .entry)) base n (now (words .exit)) r ⌝ }
 {
     if 128 <= n {
@@ -185,8 +185,8 @@ fn append(words: &mut [i32], base: usize, n: usize, w: &[i32]) -> Inserted
 }
 
 // Puts the zone of six words w into the list of a slot.
-fn insert_words(words: &mut [i32], base: usize, count: usize, w: &[i32]) -> Inserted
-    requires { ⌜ (Slot (now words) base count) × (6 ≤ length (now w)) ⌝ }
+fn insert_words(words: &mut [i32], base: usize, count: usize, w: &[i32; 6]) -> Inserted
+    requires { ⌜ Slot (now words) base count ⌝ }
     ensures { λ r. ⌜ InsertAs (zoneAt (now (w .entry)) 0) (now (words .entry)) base count (now (words .exit)) r ⌝ }
 {
     match look_over(words, base, count, w) {
@@ -215,8 +215,8 @@ pub fn insert(words: &mut [i32], base: usize, count: usize, z: Zone) -> Inserted
 }
 
 // Puts one zone more into a growing list, that of six words w, and marks whether it was placed.
-fn grow(words: &mut [i32], target: usize, count: usize, changed: bool, w: &[i32]) -> Grown
-    requires { ⌜ (Slot (now words) target count) × (6 ≤ length (now w)) ⌝ }
+fn grow(words: &mut [i32], target: usize, count: usize, changed: bool, w: &[i32; 6]) -> Grown
+    requires { ⌜ Slot (now words) target count ⌝ }
     ensures grown { λ r. ⌜ GrowsAs (zone (zoneAt (now (w .entry)) 0) ∷ []) changed (now (words .entry)) target count (now (words .exit)) r ⌝ }
     ensures kept { λ _. ⌜ Kept target 768 (now (words .entry)) (now (words .exit)) ⌝ }
 {
@@ -231,8 +231,8 @@ fn grow(words: &mut [i32], target: usize, count: usize, changed: bool, w: &[i32]
 }
 
 // Writes the words of an operation's answer, where it is a zone.
-fn write_some(answer: MaybeZone, out: &mut [i32]) -> Applied
-    requires { ⌜ (6 ≤ length (now out)) × (Writable answer) ⌝ }
+fn write_some(answer: MaybeZone, out: &mut [i32; 6]) -> Applied
+    requires { ⌜ Writable answer ⌝ }
     ensures { λ r. ⌜ AppliedAs answer (now (out .exit)) r ⌝ }
 {
     let MaybeZone::Zone(v) = answer else {
@@ -244,8 +244,8 @@ fn write_some(answer: MaybeZone, out: &mut [i32]) -> Applied
 
 // The meet or the composition of two zones, by its words. Each is coded where it is worked out: where the two came
 // together as zones, their limits would be packed and taken apart again.
-fn apply(op: Operation, z: Zone, w: Zone, out: &mut [i32]) -> Applied
-    requires { ⌜ (6 ≤ length (now out)) × (Proper 0 1_000_000 z) × (Proper 0 1_000_000 w) ⌝ }
+fn apply(op: Operation, z: Zone, w: Zone, out: &mut [i32; 6]) -> Applied
+    requires { ⌜ (Proper 0 1_000_000 z) × (Proper 0 1_000_000 w) ⌝ }
     ensures { λ r. ⌜ AppliedAs (apply op z w) (now (out .exit)) r ⌝ }
 {
     match op {
@@ -401,6 +401,36 @@ pub fn union(
     Listed::Count(count)
 }
 
+// The meets or the compositions of all pairs, into an empty list at `target`.
+fn all_pairs(
+    words: &mut [i32],
+    op: Operation,
+    left: usize,
+    n: usize,
+    right: usize,
+    m: usize,
+    target: usize,
+) -> Listed
+    requires { ⌜ (Source (now words) left n) × (Source (now words) right m) × (target + 768 ≤ length (now words)) × (Disjoint left target) × (Disjoint right target) ⌝ }
+    ensures built { λ r. ⌜ BuiltAs (insert-each (pairs op (listAt (now (words .entry)) left n) (listAt (now (words .entry)) right m)) []) (now (words .exit)) target r ⌝ }
+    ensures kept { λ _. ⌜ Kept target 768 (now (words .entry)) (now (words .exit)) ⌝ }
+{
+    let Grown::Grew { count, changed: _ } = each_pair(
+        words,
+        op,
+        left,
+        n,
+        right,
+        m,
+        target,
+        0,
+        false,
+    ) else {
+        return Listed::Overfull;
+    };
+    Listed::Count(count)
+}
+
 // `&`: the meets of all pairs, into an empty list at `target`.
 pub fn meets(
     words: &mut [i32],
@@ -414,20 +444,7 @@ pub fn meets(
     ensures built { λ r. ⌜ BuiltAs (meets (listAt (now (words .entry)) left n) (listAt (now (words .entry)) right m)) (now (words .exit)) target r ⌝ }
     ensures kept { λ _. ⌜ Kept target 768 (now (words .entry)) (now (words .exit)) ⌝ }
 {
-    let Grown::Grew { count, changed: _ } = each_pair(
-        words,
-        Operation::Meet,
-        left,
-        n,
-        right,
-        m,
-        target,
-        0,
-        false,
-    ) else {
-        return Listed::Overfull;
-    };
-    Listed::Count(count)
+    all_pairs(words, Operation::Meet, left, n, right, m, target)
 }
 
 // `.`: the compositions of all pairs, into an empty list at `target`.
@@ -443,20 +460,7 @@ pub fn compositions(
     ensures built { λ r. ⌜ BuiltAs (compositions (listAt (now (words .entry)) left n) (listAt (now (words .entry)) right m)) (now (words .exit)) target r ⌝ }
     ensures kept { λ _. ⌜ Kept target 768 (now (words .entry)) (now (words .exit)) ⌝ }
 {
-    let Grown::Grew { count, changed: _ } = each_pair(
-        words,
-        Operation::Compose,
-        left,
-        n,
-        right,
-        m,
-        target,
-        0,
-        false,
-    ) else {
-        return Listed::Overfull;
-    };
-    Listed::Count(count)
+    all_pairs(words, Operation::Compose, left, n, right, m, target)
 }
 
 // `{lo,hi}`: each zone's meet with the band, into an empty list at `target`. The band stands in the slot `scratch`.
@@ -476,20 +480,7 @@ pub fn band(
         return Listed::Count(0);
     };
     zone::write_zone(words, scratch, z);
-    let Grown::Grew { count, changed: _ } = each_pair(
-        words,
-        Operation::Meet,
-        source,
-        n,
-        scratch,
-        1,
-        target,
-        0,
-        false,
-    ) else {
-        return Listed::Overfull;
-    };
-    Listed::Count(count)
+    all_pairs(words, Operation::Meet, source, n, scratch, 1, target)
 }
 
 // One round: the list copied to `copy`, and there each listed zone's composition with each inner zone.

@@ -3,14 +3,13 @@
 use mathlib.Core.Path.{_≡_, refl, sym, ap, subst, _∙_}
 use mathlib.Core.Bool.{Bool, true, false, cond}
 use mathlib.Core.Logic.{_↔_}
-use Prim.Native.Nat.{ℕ, _+_, _-_, _*_, _≤_, _<_}
+use Prim.Native.Nat.{ℕ, _+_, _-_, _≤_, _<_}
 use native.Mathlib.Omega.{arith}
 use lib.Dec.{T}
 use lib.IntN.{ℤ, pos, _-ℤ_, _*ℤ_}
-use lib.Signed.{leZ}
 use Rattle.signed.proofs.Integers.{arithZ, neg}
 use Rattle.zone.specs.Time.{Time, origin, tick, difference, scaled, _≤ᵀ_, _<ᵀ_, _≈ᵀ_}
-use Rattle.zone.specs.Limit.{Limit, AtMost, Below, Within, at-most, _≤ᴸ_, nought, code, decode}
+use Rattle.zone.specs.Limit.{Limit, AtMost, Below, Within, _≤ᴸ_, nought}
 use Rattle.zone.specs.Zone.{Zone, MaybeZone, zone, empty, In, InMaybe, Proper, Side, limit, upper, lower, Keeps, Loses, Tight, TightMaybe, tighten, meet, compose, contains, Nesting, nesting, inside, around, apart, joined, run, diagonal, everything, band, Ranged}
 use Rattle.zone.proofs.Linear.{up, dn, sum-ud}
 use Rattle.zone.proofs.Order as order
@@ -28,7 +27,6 @@ use Rattle.zone.proofs.Begin as begin
 use Rattle.zone.proofs.Range.{inside-is, range, num-le}
 use Rattle.zone.proofs.Lengths as lengths
 use Rattle.zone.proofs.Lengths.{Extends, span, composed}
-use Rattle.zone.proofs.Words as words
 
 no-zone : {z : Zone} → ¬ (_≡_ {A = MaybeZone} empty (zone z))
 no-zone e = let f : _≡_ {A = ℕ} 0 1 = cc in omega arith
@@ -52,7 +50,7 @@ tighten-tight z = tighten-means z refl .tight
 pub tighten-same : {z : Zone} → Tight z → tighten z ≡ zone z
 tighten-same h = tightening.tighten-same (tight-is .0 h)
 
--- ==== 4. Tight
+-- ==== 2. Tight
 
 -- tight by meaning equals the closed form on limits
 pub tight-closed : {z : Zone} → Tight z ↔ Closed z
@@ -93,7 +91,7 @@ tighten-empty z a b = (
       (λ e. e),
 )
 
--- ==== 2. Meet
+-- ==== 3. Meet
 
 -- member of both, exactly
 pub meet-members : (z w : Zone) (x y : Time) → InMaybe (meet z w) x y ↔ (In z x y × In w x y)
@@ -110,7 +108,7 @@ proper-meet {z} w p e =
       inside = record { inside = λ s t h. p .inside .inside s t (meet-members z w s t .0 (subst (λ (r : MaybeZone). InMaybe r s t) (sym e) h) .0) };
     }
 
--- ==== 3. Composition of tight zones
+-- ==== 4. Composition of tight zones
 
 -- exactly the stretches with some cut, any fraction
 pub compose-members : {z w : Zone} → Tight z → Tight w → (x y : Time) → InMaybe (compose z w) x y ↔ ((t : Time) × In z x t × In w t y)
@@ -280,19 +278,7 @@ ranged {from} {to} p = let h = tight-is .0 (p .tight) in range h (inside-is h fr
 pub ranged-more : {n m : ℕ} {z : Zone} → n ≤ m → Ranged n z → Ranged m z
 ranged-more h r = record { start = omega (arith, r .start); nstart = omega (arith, r .nstart); end = omega (arith, r .end); nend = omega (arith, r .nend); length = omega (arith, r .length); nlength = omega (arith, r .nlength) }
 
--- ==== 7. Words
-
-pub decode-code : (l : Limit) → decode (code l) ≡ l
-decode-code = words.decode-code
-
-pub code-decode : (w : ℤ) → code (decode w) ≡ w
-code-decode = words.code-decode
-
--- the order of words is the order of limits
-pub code-order : (l m : Limit) → at-most l m ≡ leZ (code l) (code m)
-code-order = words.code-order
-
--- ==== 8. The zones to begin with
+-- ==== 7. The zones to begin with
 
 pub run-members : (from to : ℕ) (x y : Time) → In (run from to) x y ↔ ((tick from ≤ᵀ x) × (x <ᵀ y) × (y ≤ᵀ tick to))
 run-members = begin.run-members

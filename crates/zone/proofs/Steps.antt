@@ -29,7 +29,7 @@ pub tighten-checked : (z : Zone) {t : Zone} {r : MaybeZone} → t ≡ tighter z 
 unfolding checked tighten
 tighten-checked z e f = f ∙ ap checked e
 
--- ---- tests one after the other: one that fails fails them all, and after five that pass the sixth decides
+-- ---- tests of inclusion: one that fails fails them all
 
 pub fails-here : (a : Bool) {b : Bool} → b ≡ false → false ≡ a && b
 fails-here true e = sym e
@@ -38,8 +38,11 @@ fails-here false e = refl
 pub fails-before : {a : Bool} (b : Bool) → false ≡ a → false ≡ a && b
 fails-before b e = ap (λ (a : Bool). a && b) e
 
-pub sixth-decides : {a b c d e : Bool} (f : Bool) → a ≡ true → b ≡ true → c ≡ true → d ≡ true → e ≡ true → f ≡ a && b && c && d && e && f
-sixth-decides f p q r s t = rw (p, q, r, s, t)
+-- after the starts, the other four limits decide
+pub others-decide : (z w : Zone) {e ne l nl : Bool} → at-most (w .start) (z .start) ≡ true → at-most (w .nstart) (z .nstart) ≡ true
+    → e ≡ at-most (w .end) (z .end) → ne ≡ at-most (w .nend) (z .nend) → l ≡ at-most (w .length) (z .length) → nl ≡ at-most (w .nlength) (z .nlength)
+    → e && ne && l && nl ≡ contains z w
+others-decide z w p q e ne l nl = rw (e, ne, l, nl, p, q)
 
 -- a start that reaches further than the other's: that zone does not lie inside the other
 pub starts-decide : (z w : Zone) → at-most (w .start) (z .start) ≡ false → false ≡ contains z w

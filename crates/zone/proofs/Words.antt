@@ -2,7 +2,7 @@
 use mathlib.Core.Path.{_≡_, refl, sym, ap, _∙_}
 use mathlib.Core.Bool.{Bool, true, false, cond}
 use mathlib.Core.List.{List, [], _∷_, _++_, append-assoc}
-use Prim.Native.Nat.{ℕ, suc, _+_, _-_, _≤_, _<_}
+use Prim.Native.Nat.{ℕ, zero, suc, _+_, _-_, _≤_, _<_}
 use native.Mathlib.Omega.{arith}
 use native.Mathlib.Nat.{add-zero}
 use lib.Dec.{T}
@@ -158,6 +158,21 @@ zone-of-codes ws at z f =
       length = (ap decode (f 4 (omega arith)) ∙ decode-code (z .length)) i;
       nlength = (ap decode (f 5 (omega arith)) ∙ decode-code (z .nlength)) i;
     }
+
+-- the codes of a zone that was read are the words that it was read from
+pub zone-words : (ws : List ℤ) (at : ℕ) → codes (zoneAt ws at) ≡ word ws at ∷ word ws (at + 1) ∷ word ws (at + 2) ∷ word ws (at + 3) ∷ word ws (at + 4) ∷ word ws (at + 5) ∷ []
+unfolding zoneAt
+zone-words ws at = simp code-decode
+
+pub zone-word : (ws : List ℤ) (at k : ℕ) → k < 6 → word (codes (zoneAt ws at)) k ≡ word ws (at + k)
+unfolding zoneAt
+zone-word ws at zero h = code-decode (word ws at) ∙ ap (word ws) (omega arith)
+zone-word ws at (suc zero) h = code-decode (word ws (at + 1))
+zone-word ws at (suc (suc zero)) h = code-decode (word ws (at + 2))
+zone-word ws at (suc (suc (suc zero))) h = code-decode (word ws (at + 3))
+zone-word ws at (suc (suc (suc (suc zero)))) h = code-decode (word ws (at + 4))
+zone-word ws at (suc (suc (suc (suc (suc zero))))) h = code-decode (word ws (at + 5))
+zone-word ws at (suc (suc (suc (suc (suc (suc k)))))) h = absurd (omega arith)
 
 -- two buffers with the same six words have the same zone there
 pub same-zone : (ws vs : List ℤ) (i j : ℕ) → ((k : ℕ) → k < 6 → word ws (i + k) ≡ word vs (j + k)) → zoneAt ws i ≡ zoneAt vs j

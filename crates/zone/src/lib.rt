@@ -4,6 +4,7 @@
 // specs/ says what a time, a limit and a zone mean; proofs/Laws.antt is the page that crates above cite. A `requires`
 // is only of ranges, and every tight zone inside 0..1,000,000 meets it (`ranged` in proofs/Laws.antt).
 ghost use mathlib.Core.Path.{_≡_};
+ghost use mathlib.Core.List.{[], _∷_};
 ghost use Prim.Native.Nat.{_+_, _≤_, _<_};
 ghost use lib.ListN.{length};
 ghost use lib.IntN.{pos, negℤ, _+ℤ_, _-ℤ_};
@@ -260,7 +261,8 @@ impl Zone {
         self.both(other).tighten()
     }
 
-    // The limits on start and end that a cut between the two zones leaves.
+    // The limits on start and end that a cut between the two zones leaves. Each sum has the other zone's limit first: in this
+    // order the compiler sees that the word of a limit that was just read is the word it was read from.
     fn joined(self, other: Zone) -> Zone
         requires { ⌜ (Ranged 1_000_000 self) × (Ranged 1_000_000 other) ⌝ }
         ensures { λ r. ⌜ r ≡ joined self other ⌝ }
@@ -278,12 +280,12 @@ impl Zone {
         let ol = other.length;
         let onl = other.nlength;
         Zone {
-            start: s.or_sum(nl, os),
+            start: s.or_sum(os, nl),
             nstart: ns.or_sum(ons, l),
             end: oe.or_sum(ol, e),
-            nend: one.or_sum(ne, onl),
+            nend: one.or_sum(onl, ne),
             length: ol.plus(l).or_sum(oe, ns),
-            nlength: nl.plus(onl).or_sum(s, one),
+            nlength: onl.plus(nl).or_sum(one, s),
         }
     }
 
@@ -323,22 +325,12 @@ impl Zone {
         let one = other.nend;
         let ol = other.length;
         let onl = other.nlength;
-        if !os.at_most(s) {
-            return false;
-        }
-        if !ons.at_most(ns) {
-            return false;
-        }
-        if !oe.at_most(e) {
-            return false;
-        }
-        if !one.at_most(ne) {
-            return false;
-        }
-        if !ol.at_most(l) {
-            return false;
-        }
-        onl.at_most(nl)
+        os.at_most(s)
+            & ons.at_most(ns)
+            & oe.at_most(e)
+            & one.at_most(ne)
+            & ol.at_most(l)
+            & onl.at_most(nl)
     }
 
     // The stretches within ticks from..to that have a length.
@@ -450,6 +442,19 @@ pub fn read_zone(words: &[i32], at: usize) -> Zone
     }
 }
 
+// Writes six words from `at` on; all other words stay as they were.
+fn write_words(words: &mut [i32], at: usize, s: i32, ns: i32, e: i32, ne: i32, l: i32, nl: i32)
+    requires { ⌜ at + 6 ≤ length (now words) ⌝ }
+    ensures { λ _. ⌜ now (words .exit) ≡ overwrite (now (words .entry)) at (s ∷ ns ∷ e ∷ ne ∷ l ∷ nl ∷ []) ⌝ }
+{
+    words[at] = s;
+    words[at + 1] = ns;
+    words[at + 2] = e;
+    words[at + 3] = ne;
+    words[at + 4] = l;
+    words[at + 5] = nl;
+}
+
 // Writes the six words of a zone from `at` on; all other words stay as they were.
 pub fn write_zone(words: &mut [i32], at: usize, z: Zone)
     requires { ⌜ (at + 6 ≤ length (now words)) × (Ranged 1_000_000 z) ⌝ }
@@ -461,12 +466,16 @@ pub fn write_zone(words: &mut [i32], at: usize, z: Zone)
     let ne = z.nend;
     let l = z.length;
     let nl = z.nlength;
-    words[at] = s.word();
-    words[at + 1] = ns.word();
-    words[at + 2] = e.word();
-    words[at + 3] = ne.word();
-    words[at + 4] = l.word();
-    words[at + 5] = nl.word();
+    write_words(
+        words,
+        at,
+        s.word(),
+        ns.word(),
+        e.word(),
+        ne.word(),
+        l.word(),
+        nl.word(),
+    );
 }
 
 // Copies the zone whose words stand from `i` on in `from`; all other words stay as they were.
@@ -480,12 +489,22 @@ pub fn copy_zone(words: &mut [i32], at: usize, from: &[i32], i: usize)
     let ne = from[i + 3];
     let l = from[i + 4];
     let nl = from[i + 5];
-    words[at] = s;
-    words[at + 1] = ns;
-    words[at + 2] = e;
-    words[at + 3] = ne;
-    words[at + 4] = l;
-    words[at + 5] = nl;
+    write_words(words, at, s, ns, e, ne, l, nl);
+}
+
+// Copies the zone whose words stand from `from` on to `to` in the same words; all others stay as they were. The six are
+// read before the first is written, so that the two places may have words in common.
+pub fn move_zone(words: &mut [i32], from: usize, to: usize)
+    requires { ⌜ (from + 6 ≤ length (now words)) × (to + 6 ≤ length (now words)) ⌝ }
+    ensures { λ _. ⌜ now (words .exit) ≡ overwrite (now (words .entry)) to (codes (zoneAt (now (words .entry)) from)) ⌝ }
+{
+    let s = words[from];
+    let ns = words[from + 1];
+    let e = words[from + 2];
+    let ne = words[from + 3];
+    let l = words[from + 4];
+    let nl = words[from + 5];
+    write_words(words, to, s, ns, e, ne, l, nl);
 }
 
 // Whether the limit of one word is at most that of another: the order of words is that of limits, so nothing is decoded.
@@ -496,8 +515,8 @@ fn word_at_most(inner: &[i32], i: usize, outer: &[i32], j: usize) -> bool
     inner[i] <= outer[j]
 }
 
-// Whether the tight zone whose words stand from `i` on in `inner` lies inside the one from `j` on in `outer`. Of zones in
-// the rounds of a star that start alike it is the lengths that differ, so these are compared before the ends.
+// Whether the tight zone whose words stand from `i` on in `inner` lies inside the one from `j` on in `outer`. The starts
+// mostly settle it. The other four limits are compared in one go.
 pub fn included(inner: &[i32], i: usize, outer: &[i32], j: usize) -> bool
     requires { ⌜ (i + 6 ≤ length (now inner)) × (j + 6 ≤ length (now outer)) ⌝ }
     ensures value { λ r. ⌜ r ≡ contains (zoneAt (now (outer .entry)) j) (zoneAt (now (inner .entry)) i) ⌝ }
@@ -509,21 +528,15 @@ pub fn included(inner: &[i32], i: usize, outer: &[i32], j: usize) -> bool
     if !word_at_most(inner, i + 1, outer, j + 1) {
         return false;
     }
-    if !word_at_most(inner, i + 4, outer, j + 4) {
-        return false;
-    }
-    if !word_at_most(inner, i + 2, outer, j + 2) {
-        return false;
-    }
-    if !word_at_most(inner, i + 3, outer, j + 3) {
-        return false;
-    }
-    word_at_most(inner, i + 5, outer, j + 5)
+    word_at_most(inner, i + 2, outer, j + 2)
+        & word_at_most(inner, i + 3, outer, j + 3)
+        & word_at_most(inner, i + 4, outer, j + 4)
+        & word_at_most(inner, i + 5, outer, j + 5)
 }
 
-// How the tight zone whose words stand from `i` on in `a` lies to the one from `j` on in `b`. Of zones whose starts have
-// different upper limits only the one with the lower can lie inside the other, and the other way is not asked. A zone that
-// is put mostly comes behind those listed, so that this is asked first.
+// How the tight zone whose words stand from `i` on in `a` lies to the one from `j` on in `b`. The one whose starts have the
+// higher upper limit cannot lie inside the other, so this way is not asked. Whether it is the one in `a` is asked first:
+// zones are mostly put in rising time, and `a` has the new one.
 pub fn nested(a: &[i32], i: usize, b: &[i32], j: usize) -> Nesting
     requires { ⌜ (i + 6 ≤ length (now a)) × (j + 6 ≤ length (now b)) ⌝ }
     ensures { λ r. ⌜ r ≡ nesting (zoneAt (now (a .entry)) i) (zoneAt (now (b .entry)) j) ⌝ }

@@ -1,5 +1,5 @@
 use Rattle.list.proofs.Slots.{list-there, still-source}
-use Rattle.list.proofs.Answers.{listing, band-kept, band-alone, kept-both, kept-neither, sound-band}
+use Rattle.list.proofs.Answers.{band-kept, band-alone, kept-both, kept-neither, sound-band}
 use Rattle.list.proofs.Puts.{holds-same}
 use Rattle.list.specs.Slots.{listAt, Sound}
 use Rattle.list.specs.Operators.{banded}
@@ -18,35 +18,28 @@ returns c = (rw (c .enum-told .given .1) (record { list = []; value = refl; hold
 write-zone-requires : tie.Need-write-zone-requires
 write-zone-requires c κs = (omega arith, ranged (rw (c .before .before .limits .given .1) at (c .before .before .before .before .pre .6)))
 
-each-pair-requires : tie.Need-each-pair-requires
-each-pair-requires c κs =
+all-pairs-requires : tie.Need-all-pairs-requires
+all-pairs-requires c κs =
     let z = c .before .before .before .before .before .limits .given .0 .0 in
     let f = band-kept z _ _ (c .before .before .before .before .before .before .before .pre .1) (c .before .before .write-zone .ensures) in
     let alone = band-alone z _ _ (c .before .before .before .before .before .before .before .pre .1) (c .before .before .write-zone .ensures) in (
       still-source _ _ (c .before .before .before .before .before .before .before .pre .0) f (c .before .before .before .before .before .before .before .pre .5),
       record { few = omega arith; room = omega (arith, f .same-length, c .before .before .before .before .before .before .before .pre .1); sound = subst Sound (sym alone) (sound-band (rw (c .before .before .before .before .before .limits .given .1) at (c .before .before .before .before .before .before .before .pre .6))) },
-      record { few = omega arith; room = omega (arith, f .same-length, c .before .before .before .before .before .before .before .pre .2) },
+      omega (arith, f .same-length, c .before .before .before .before .before .before .before .pre .2),
       c .before .before .before .before .before .before .before .pre .3,
       c .before .before .before .before .before .before .before .pre .4,
     )
 
 returns-2 : tie.Need-returns-2
-unfolding banded listAt
+unfolding banded
 returns-2 c =
-    let z = c .before .before .before .before .before .before .before .before .before .limits .given .0 .0 in
-    let f = band-kept z _ _ (c .before .before .before .before .before .before .before .before .before .before .before .pre .1) (c .before .before .before .before .before .before .write-zone .ensures) in
-    let e = rw (c .enum-told2 .given .1) at (c .before .before .before .each-pair .ensures .0) in
-    (rw (c .before .before .before .before .before .before .before .before .before .limits .given .1) (rw (list-there (c .before .before .before .before .before .before .before .before .before .before .before .args .source) (c .before .before .before .before .before .before .before .before .before .before .before .args .n) f (c .before .before .before .before .before .before .before .before .before .before .before .pre .5) (c .before .before .before .before .before .before .before .before .before .before .before .pre .0 .few), band-alone z _ _ (c .before .before .before .before .before .before .before .before .before .before .before .pre .1) (c .before .before .before .before .before .before .write-zone .ensures)) at e), kept-both f (c .before .before .before .each-pair .ensures .1))
-
-returns-3 : tie.Need-returns-3
-unfolding banded listAt
-returns-3 c =
-    let z = c .before .before .before .before .before .before .before .before .before .before .limits .given .0 .0 in
-    let f = band-kept z _ _ (c .before .before .before .before .before .before .before .before .before .before .before .before .pre .1) (c .before .before .before .before .before .before .before .write-zone .ensures) in
-    let e = listing (rw (c .before .count .given .1) at (c .before .before .before .before .each-pair .ensures .0)) in
-    (rw (c .before .before .before .before .before .before .before .before .before .before .limits .given .1) (rw (list-there (c .before .before .before .before .before .before .before .before .before .before .before .before .args .source) (c .before .before .before .before .before .before .before .before .before .before .before .before .args .n) f (c .before .before .before .before .before .before .before .before .before .before .before .before .pre .5) (c .before .before .before .before .before .before .before .before .before .before .before .before .pre .0 .few), band-alone z _ _ (c .before .before .before .before .before .before .before .before .before .before .before .before .pre .1) (c .before .before .before .before .before .before .before .write-zone .ensures)) at e), kept-both f (c .before .before .before .before .each-pair .ensures .1))
+    let z = c .before .before .before .before .before .before .before .limits .given .0 .0 in
+    let pre = c .before .before .before .before .before .before .before .before .before .pre in
+    let f = band-kept z _ _ (pre .1) (c .before .before .before .before .write-zone .ensures) in
+    let same = list-there (c .before .before .before .before .before .before .before .before .before .args .source) (c .before .before .before .before .before .before .before .before .before .args .n) f (pre .5) (pre .0 .few) in
+    (rw (c .before .before .before .before .before .before .before .limits .given .1) (rw (same, band-alone z _ _ (pre .1) (c .before .before .before .before .write-zone .ensures)) at (c .before .all-pairs .ensures .0)), kept-both f (c .before .all-pairs .ensures .1))
 
 pub band-spec : {M : Type 1} → statement M
 band-spec =
     tie.close
-    (tie.spec (λ c. search needs) (λ c. search needs) returns write-zone-requires each-pair-requires (λ c. search needs) (λ c. search needs) (λ c. search needs) returns-2 (λ c. search needs) returns-3)
+    (tie.spec (λ c. search needs) (λ c. search needs) returns write-zone-requires all-pairs-requires (λ c. search needs) returns-2)

@@ -43,7 +43,7 @@ loop-less c = omega arith
 loop-again : tie.Need-loop-again Inv-loop μ-loop
 loop-again c = (
   omega arith,
-  rw (back (record { sfits = c .words .given })) (copied-more (c .before .before .loop .inv .1) (c .before .before .before .pre .2) (c .before .loop-test .taken) (omega (arith, c .before .before .loop .inv .1 .kept .same-length))),
+  rw (back (record { sfits = c .words .given })) (copied-more (c .before .before .loop .inv .1) (c .before .before .before .pre .1) (omega (arith, c .before .before .loop .inv .1 .kept .same-length))),
 )
 
 same-length : tie.Need-same-length Inv-loop μ-loop

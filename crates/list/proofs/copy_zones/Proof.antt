@@ -1,9 +1,8 @@
 use Prim.Native.Nat.{_≤_, _-_, _+_, _*_}
 use mathlib.Core.Path.{_≡_}
-use mathlib.Core.Logic.{inl, inr, ⊎-elim}
 use native.Mathlib.Omega.{arith}
 use Rattle.list.specs.Steps.{Copied}
-use Rattle.list.proofs.Slots.{copied-none, copied-on}
+use Rattle.list.proofs.Slots.{copied-none, copied-on, copied-zone}
 use Rattle.list.proofs.copy_zones.Statement.{statement}
 use Rattle.list.proofs.copy_zones.Tie as tie
 
@@ -16,22 +15,20 @@ abbrev μ-loop : tie.MeasureT-loop
 loop-holds : tie.Need-loop-holds Inv-loop μ-loop
 loop-holds c = (omega arith, copied-none _ _ _)
 
-mul-copy-words : tie.Need-mul-copy-words Inv-loop μ-loop
-mul-copy-words c = omega arith
+mul-move-zone : tie.Need-mul-move-zone Inv-loop μ-loop
+mul-move-zone c = omega arith
 
-add-copy-words : tie.Need-add-copy-words Inv-loop μ-loop
-add-copy-words c = omega arith
+add-move-zone : tie.Need-add-move-zone Inv-loop μ-loop
+add-move-zone c = omega arith
 
-mul-copy-words-2 : tie.Need-mul-copy-words-2 Inv-loop μ-loop
-mul-copy-words-2 c = omega arith
+mul-move-zone-2 : tie.Need-mul-move-zone-2 Inv-loop μ-loop
+mul-move-zone-2 c = omega arith
 
-add-copy-words-2 : tie.Need-add-copy-words-2 Inv-loop μ-loop
-add-copy-words-2 c = omega arith
+add-move-zone-2 : tie.Need-add-move-zone-2 Inv-loop μ-loop
+add-move-zone-2 c = omega arith
 
-copy-words-requires : tie.Need-copy-words-requires Inv-loop μ-loop
-copy-words-requires c κs =
-    let e = c .before .before .loop .inv .1 .kept .same-length in
-    (omega (arith, e), omega (arith, e), ⊎-elim (λ h. inl (omega arith)) (λ h. inr (omega arith)) (c .before .before .before .pre .2))
+move-zone-requires : tie.Need-move-zone-requires Inv-loop μ-loop
+move-zone-requires c κs = let e = c .before .before .loop .inv .1 .kept .same-length in (omega (arith, e), omega (arith, e))
 
 add-k : tie.Need-add-k Inv-loop μ-loop
 add-k c = omega arith
@@ -42,8 +39,10 @@ loop-less c = omega arith
 loop-again : tie.Need-loop-again Inv-loop μ-loop
 loop-again c =
     let k = c .before .before .before .before .loop .k in
+    let sofar = c .before .before .before .before .loop .inv .1 in
+    let next = copied-zone (c .before .before .before .before .loop .words) (c .before .before .before .before .before .args .from + k * 6) (c .before .before .before .before .before .args .to + k * 6) (omega (arith, sofar .kept .same-length)) in
     let e : k * 6 + 6 ≡ (k + 1) * 6 = omega arith in
-    (omega arith, rw e at (copied-on (c .before .before .before .before .loop .inv .1) (c .before .copy-words .ensures) (c .before .before .before .before .before .pre .2) (omega arith)))
+    (omega arith, rw (c .before .move-zone .ensures, ← e) (copied-on sofar next (c .before .before .before .before .before .pre .2) (omega arith)))
 
 same-length : tie.Need-same-length Inv-loop μ-loop
 same-length c = c .before .loop .inv .1 .kept .same-length
@@ -60,11 +59,11 @@ copy-zones-spec =
     Inv-loop
     μ-loop
     loop-holds
-    mul-copy-words
-    add-copy-words
-    mul-copy-words-2
-    add-copy-words-2
-    copy-words-requires
+    mul-move-zone
+    add-move-zone
+    mul-move-zone-2
+    add-move-zone-2
+    move-zone-requires
     add-k
     loop-less
     loop-again

@@ -11,4 +11,4 @@ returns c = rw (held (zoneAt (c .before .before .before .before .before .before 
 pub grow-from-spec : {M : Type 1} → statement M
 grow-from-spec =
     tie.close
-    (tie.spec (λ c. search needs) (λ c κs. search needs) (λ c. search needs) (λ c κs. search needs) (λ c. search needs) returns)
+    (tie.spec (λ c. search needs) (λ c κs. search needs) (λ c κs. search needs) (λ c. search needs) returns)

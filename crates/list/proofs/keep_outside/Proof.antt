@@ -1,8 +1,7 @@
 -- `keep_outside` meets its contract. Assumes nothing.
 use native.Mathlib.Omega.{arith}
-use mathlib.Core.Logic.{inl}
 use mathlib.Core.Path.{refl}
-use Rattle.list.proofs.Slots.{copied-there}
+use Rattle.list.proofs.Slots.{copied-there, copied-zone}
 use borrow.Author.Needs.{needs}
 use Rattle.list.proofs.keep_outside.Statement.{statement}
 use Rattle.list.proofs.keep_outside.Tie as tie
@@ -13,11 +12,11 @@ returns c = rw (← c .before .included .ensures .0, c .if1 .taken) (refl, refl)
 returns-2 : tie.Need-returns-2
 returns-2 c = rw (← c .before .before .included .ensures .0, c .before .if1 .left) (refl, copied-there 6 _ (omega (arith, c .if2 .taken)))
 
-copy-words-requires : tie.Need-copy-words-requires
-copy-words-requires c κs = (omega arith, omega arith, inl (omega arith))
+move-zone-requires : tie.Need-move-zone-requires
+move-zone-requires c κs = (omega arith, omega arith)
 
 returns-3 : tie.Need-returns-3
-returns-3 c = rw (← c .before .before .before .before .before .included .ensures .0, c .before .before .before .before .if1 .left) (refl, c .before .copy-words .ensures)
+returns-3 c = rw (← c .before .before .before .before .before .included .ensures .0, c .before .before .before .before .if1 .left) (refl, rw (c .before .move-zone .ensures) (copied-zone _ _ _ (omega arith)))
 
 pub keep-outside-spec : {M : Type 1} → statement M
 keep-outside-spec =
@@ -35,7 +34,7 @@ keep-outside-spec =
     (λ c. search needs)
     (λ c. search needs)
     (λ c. search needs)
-    copy-words-requires
+    move-zone-requires
     (λ c. search needs)
     (λ c. search needs)
     returns-3)

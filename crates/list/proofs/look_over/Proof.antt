@@ -30,7 +30,7 @@ nested-requires : tie.Need-nested-requires Inv-loop μ-loop
 nested-requires c κs = (omega arith, omega arith)
 
 returns : tie.Need-returns Inv-loop μ-loop
-returns c = held-here _ _ _ _ _ (c .before .before .before .loop-test .taken) (nesting-inside _ _ (sym (c .enum-told .given .1) ∙ c .before .before .nested .ensures))
+returns c = held-here _ _ _ _ _ (c .before .before .before .before .loop-test .taken) (nesting-inside _ _ (sym (c .enum-told .given .1) ∙ c .before .before .nested .ensures))
 
 add-i : tie.Need-add-i Inv-loop μ-loop
 add-i c = omega arith
@@ -40,12 +40,12 @@ loop-less c = omega arith
 
 loop-again : tie.Need-loop-again Inv-loop μ-loop
 loop-again c =
-    let z = zoneAt (c .before .before .before .before .args .w .now) 0 in
-    let ws = c .before .before .before .before .args .words .now in
-    let base = c .before .before .before .before .args .base in
-    let i = c .before .before .before .loop .i in
-    let seen = c .before .before .before .loop .seen in
-    let sofar = c .before .before .before .loop .inv .1 in (
+    let z = zoneAt (c .before .before .before .before .before .args .w .now) 0 in
+    let ws = c .before .before .before .before .before .args .words .now in
+    let base = c .before .before .before .before .before .args .base in
+    let i = c .before .before .before .before .loop .i in
+    let seen = c .before .before .before .before .loop .seen in
+    let sofar = c .before .before .before .before .loop .inv .1 in (
       omega arith,
       ⊎-elim
           (λ w. let e = sym (w .1 .given .1) ∙ c .before .nested .ensures in let f = nesting-inside _ _ e in rw (w .3) (w .2 .ensures z ws base sofar f (nesting-around _ _ e f)))

@@ -13,10 +13,10 @@ abbrev μ-loop : tie.MeasureT-loop
 μ-loop words₀ base count clear w kept₀ i₀ words kept i = count - i
 
 loop-holds : tie.Need-loop-holds Inv-loop μ-loop
-loop-holds c = c .pre .2
+loop-holds c = c .pre .1
 
 keep-outside-requires : tie.Need-keep-outside-requires Inv-loop μ-loop
-keep-outside-requires c κs = (c .before .before .loop .inv .fewer, omega arith, omega (arith, c .before .before .loop .inv .frame .same-length), c .before .before .before .pre .1)
+keep-outside-requires c κs = (c .before .before .loop .inv .fewer, omega arith, omega (arith, c .before .before .loop .inv .frame .same-length))
 
 add-i : tie.Need-add-i Inv-loop μ-loop
 add-i c = omega arith

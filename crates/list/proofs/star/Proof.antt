@@ -53,10 +53,8 @@ write-zone-requires c κs = (omega arith, rw (c .diagonal .ensures) (ranged-more
 grow-requires : tie.Need-grow-requires
 grow-requires c κs =
     let f = copy-kept (c .before .before .before .before .before .before .before .before .before .before .before .before .before .before .before .before .before .before .pre .0 .few) (c .before .before .before .before .before .before .before .before .before .before .before .before .before .before .before .before .copy-zones .ensures) in
-    let w = rw (c .before .before .before .before .before .before .before .before .before .before .at .given .1) at (c .before .before .before .before .before .before .before .before .before .before .before .before .before .all-rounds .ensures .0) in (
-      record { few = w .holds .few; room = omega (arith, f .same-length, c .before .before .before .before .before .before .before .before .before .before .before .before .before .all-rounds .ensures .1 .same-length, c .before .before .before .before .before .before .before .bring .ensures .1 .same-length, c .before .before .before .before .before .before .before .before .before .before .before .before .before .before .before .before .before .before .pre .1) },
-      omega arith,
-    )
+    let w = rw (c .before .before .before .before .before .before .before .before .before .before .at .given .1) at (c .before .before .before .before .before .before .before .before .before .before .before .before .before .all-rounds .ensures .0) in
+    record { few = w .holds .few; room = omega (arith, f .same-length, c .before .before .before .before .before .before .before .before .before .before .before .before .before .all-rounds .ensures .1 .same-length, c .before .before .before .before .before .before .before .bring .ensures .1 .same-length, c .before .before .before .before .before .before .before .before .before .before .before .before .before .before .before .before .before .before .pre .1) }
 
 returns-2 : tie.Need-returns-2
 returns-2 c =
@@ -86,4 +84,4 @@ returns-3 c =
 pub star-spec : {M : Type 1} → statement M
 star-spec =
     tie.close
-    (tie.spec copy-zones-requires all-rounds-requires (λ c. search needs) (λ c. search needs) (λ c. search needs) returns bring-requires (λ c. search needs) diagonal-requires write-zone-requires (λ c. search needs) grow-requires (λ c. search needs) (λ c. search needs) (λ c. search needs) returns-2 same-length-3 returns-3)
+    (tie.spec copy-zones-requires all-rounds-requires (λ c. search needs) (λ c. search needs) (λ c. search needs) returns bring-requires (λ c. search needs) diagonal-requires write-zone-requires grow-requires (λ c. search needs) (λ c. search needs) (λ c. search needs) returns-2 same-length-3 returns-3)

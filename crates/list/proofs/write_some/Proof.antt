@@ -7,10 +7,10 @@ use Rattle.list.proofs.write_some.Statement.{statement}
 use Rattle.list.proofs.write_some.Tie as tie
 
 write-zone-requires : tie.Need-write-zone-requires
-write-zone-requires c κs = (omega arith, c .before .before .before .before .pre .1 _ (c .before .before .answer .given .1))
+write-zone-requires c κs = (omega arith, c .before .before .before .before .pre _ (c .before .before .answer .given .1))
 
 returns-2 : tie.Need-returns-2
-returns-2 c = c .before .before .before .before .answer .given .1 ∙ ap zone (sym (held _ _ (c .before .write-zone .ensures) (omega arith)))
+returns-2 c = c .before .before .before .answer .given .1 ∙ ap zone (sym (held _ _ (c .write-zone .ensures) (omega arith)))
 
 pub write-some-spec : {M : Type 1} → statement M
-write-some-spec = tie.close (tie.spec (λ c. search needs) (λ c. search needs) (λ c. search needs) write-zone-requires (λ c. search needs) returns-2)
+write-some-spec = tie.close (tie.spec (λ c. search needs) (λ c. search needs) (λ c. search needs) write-zone-requires returns-2)

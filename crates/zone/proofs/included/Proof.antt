@@ -1,9 +1,9 @@
 use Rattle.zone.proofs.Means.{contains-means}
-use Rattle.zone.proofs.Steps.{is-true, is-false, fails-here, fails-before, starts-decide, sixth-decides}
+use Rattle.zone.proofs.Steps.{is-true, is-false, fails-here, fails-before, starts-decide, others-decide}
 use Rattle.zone.specs.Words.{zoneAt}
 use Rattle.zone.specs.Zone.{contains}
 use Rattle.zone.specs.Limit.{at-most}
-use mathlib.Core.Bool.{false, _&&_}
+use mathlib.Core.Bool.{false}
 use mathlib.Core.Path.{_≡_, sym, _∙_}
 use borrow.Author.Needs.{needs}
 use Rattle.zone.proofs.included.Statement.{statement}
@@ -28,36 +28,12 @@ returns-2 c =
 returns-3 : tie.Need-returns-3
 unfolding zoneAt
 returns-3 c =
-    let z = zoneAt (c .before .before .before .before .before .before .args .outer .now) (c .before .before .before .before .before .before .args .j) in
-    let w = zoneAt (c .before .before .before .before .before .before .args .inner .now) (c .before .before .before .before .before .before .args .i) in
-    let v : false ≡ contains z w = fails-before (at-most (w .nlength) (z .nlength)) (fails-here (at-most (w .start) (z .start) && at-most (w .nstart) (z .nstart) && at-most (w .end) (z .end) && at-most (w .nend) (z .nend)) (sym (c .before .word-at-most3 .ensures) ∙ is-false (c .if3 .taken))) in
-    (v, contains-means z w v)
-
-returns-4 : tie.Need-returns-4
-unfolding zoneAt
-returns-4 c =
     let z = zoneAt (c .before .before .before .before .before .before .before .before .args .outer .now) (c .before .before .before .before .before .before .before .before .args .j) in
     let w = zoneAt (c .before .before .before .before .before .before .before .before .args .inner .now) (c .before .before .before .before .before .before .before .before .args .i) in
-    let v : false ≡ contains z w = fails-before (at-most (w .nlength) (z .nlength)) (fails-before (at-most (w .length) (z .length)) (fails-before (at-most (w .nend) (z .nend)) (fails-here (at-most (w .start) (z .start) && at-most (w .nstart) (z .nstart)) (sym (c .before .word-at-most4 .ensures) ∙ is-false (c .if4 .taken))))) in
-    (v, contains-means z w v)
-
-returns-5 : tie.Need-returns-5
-unfolding zoneAt
-returns-5 c =
-    let z = zoneAt (c .before .before .before .before .before .before .before .before .before .before .args .outer .now) (c .before .before .before .before .before .before .before .before .before .before .args .j) in
-    let w = zoneAt (c .before .before .before .before .before .before .before .before .before .before .args .inner .now) (c .before .before .before .before .before .before .before .before .before .before .args .i) in
-    let v : false ≡ contains z w = fails-before (at-most (w .nlength) (z .nlength)) (fails-before (at-most (w .length) (z .length)) (fails-here (at-most (w .start) (z .start) && at-most (w .nstart) (z .nstart) && at-most (w .end) (z .end)) (sym (c .before .word-at-most5 .ensures) ∙ is-false (c .if5 .taken)))) in
-    (v, contains-means z w v)
-
-returns-6 : tie.Need-returns-6
-unfolding zoneAt
-returns-6 c =
-    let z = zoneAt (c .before .before .before .before .before .before .before .before .before .before .before .args .outer .now) (c .before .before .before .before .before .before .before .before .before .before .before .args .j) in
-    let w = zoneAt (c .before .before .before .before .before .before .before .before .before .before .before .args .inner .now) (c .before .before .before .before .before .before .before .before .before .before .before .args .i) in
-    let v : c .word-at-most6 .result ≡ contains z w = c .word-at-most6 .ensures ∙ sixth-decides (at-most (w .nlength) (z .nlength)) (sym (c .before .before .before .before .before .before .before .before .before .before .word-at-most .ensures) ∙ is-true (c .before .before .before .before .before .before .before .before .before .if1 .left)) (sym (c .before .before .before .before .before .before .before .before .word-at-most2 .ensures) ∙ is-true (c .before .before .before .before .before .before .before .if2 .left)) (sym (c .before .before .before .before .word-at-most4 .ensures) ∙ is-true (c .before .before .before .if4 .left)) (sym (c .before .before .word-at-most5 .ensures) ∙ is-true (c .before .if5 .left)) (sym (c .before .before .before .before .before .before .word-at-most3 .ensures) ∙ is-true (c .before .before .before .before .before .if3 .left)) in
+    let v = others-decide z w (sym (c .before .before .before .before .before .before .before .word-at-most .ensures) ∙ is-true (c .before .before .before .before .before .before .if1 .left)) (sym (c .before .before .before .before .before .word-at-most2 .ensures) ∙ is-true (c .before .before .before .before .if2 .left)) (c .before .before .before .word-at-most3 .ensures) (c .before .before .word-at-most4 .ensures) (c .before .word-at-most5 .ensures) (c .word-at-most6 .ensures) in
     (v, contains-means z w v)
 
 pub included-spec : {M : Type 1} → statement M
 included-spec =
     tie.close
-    (tie.spec (λ c κs. search needs) returns (λ c. search needs) (λ c. search needs) (λ c κs. search needs) returns-2 (λ c. search needs) (λ c. search needs) (λ c κs. search needs) returns-3 (λ c. search needs) (λ c. search needs) (λ c κs. search needs) returns-4 (λ c. search needs) (λ c. search needs) (λ c κs. search needs) returns-5 (λ c. search needs) (λ c. search needs) (λ c κs. search needs) returns-6)
+    (tie.spec (λ c κs. search needs) returns (λ c. search needs) (λ c. search needs) (λ c κs. search needs) returns-2 (λ c. search needs) (λ c. search needs) (λ c κs. search needs) (λ c. search needs) (λ c. search needs) (λ c κs. search needs) (λ c. search needs) (λ c. search needs) (λ c κs. search needs) (λ c. search needs) (λ c. search needs) (λ c κs. search needs) returns-3)

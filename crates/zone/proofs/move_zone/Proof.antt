@@ -1,0 +1,15 @@
+use mathlib.Core.Path.{_∙_}
+use Rattle.zone.proofs.Signed.{zone-kept}
+use borrow.Author.Needs.{needs}
+use Rattle.zone.proofs.move_zone.Statement.{statement}
+use Rattle.zone.proofs.move_zone.Tie as tie
+
+returns : tie.Need-returns
+returns c =
+    let a = c .before .before .before .before .before .before .before .before .before .args in
+    c .before .write-words .ensures ∙ zone-kept _ _ (a .words .now) (a .from) (record { sfits = c .before .before .before .before .before .before .before .before .s .given }) (record { sfits = c .before .before .before .before .before .before .before .ns .given }) (record { sfits = c .before .before .before .before .before .before .e .given }) (record { sfits = c .before .before .before .before .before .ne .given }) (record { sfits = c .before .before .before .before .l .given }) (record { sfits = c .before .before .before .nl .given })
+
+pub move-zone-spec : {M : Type 1} → statement M
+move-zone-spec =
+    tie.close
+    (tie.spec (λ c. search needs) (λ c. search needs) (λ c. search needs) (λ c. search needs) (λ c. search needs) (λ c. search needs) (λ c. search needs) (λ c. search needs) (λ c. search needs) (λ c. search needs) (λ c. search needs) (λ c. search needs) (λ c. search needs) (λ c. search needs) (λ c. search needs) (λ c. search needs) (λ c. search needs) (λ c κs. search needs) (λ c. search needs) returns)
