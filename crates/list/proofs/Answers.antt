@@ -42,7 +42,7 @@ module _ (A B : List Zone) where
     pub union-right-over : insert-each (map zone B′) (listAt us target k) ≡ overfull → union A B ≡ overfull
     union-right-over f = then-right ∙ f
 
-    pub union-listing : {vs : List ℤ} {n : ℕ} {last : Bool} → Growth (insert-each (map zone B′) (listAt us target k)) changed (listAt us target k) vs target n last → Listing (union A B) vs target n
+    pub union-listing : {vs : List ℤ} {n : ℕ} {between last : Bool} → Growth (insert-each (map zone B′) (listAt us target k)) between (listAt us target k) vs target n last → Listing (union A B) vs target n
     union-listing w = record { list = w .list; value = then-right ∙ w .value; holds = w .holds }
 
 -- ---- the band, written into a slot of its own

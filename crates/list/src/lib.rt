@@ -7,6 +7,7 @@ use zone::MaybeZone;
 use zone::Nesting;
 use zone::Zone;
 ghost use mathlib.Core.Path.{_≡_};
+ghost use mathlib.Core.Bool.{false};
 ghost use mathlib.Core.Logic.{_⊎_};
 ghost use mathlib.Core.List.{[], _∷_, map};
 ghost use Prim.Native.Nat.{_+_, _*_, _≤_, _<_};
@@ -307,14 +308,13 @@ fn each_pair(
     m: usize,
     target: usize,
     count: usize,
-    changed: bool,
 ) -> Grown
     requires { ⌜ (Source (now words) left n) × (Source (now words) right m) × (Slot (now words) target count) × (Disjoint left target) × (Disjoint right target) ⌝ }
-    ensures grown { λ r. ⌜ GrowsAs (pairs op (listAt (now (words .entry)) left n) (listAt (now (words .entry)) right m)) changed (now (words .entry)) target count (now (words .exit)) r ⌝ }
+    ensures grown { λ r. ⌜ GrowsAs (pairs op (listAt (now (words .entry)) left n) (listAt (now (words .entry)) right m)) false (now (words .entry)) target count (now (words .exit)) r ⌝ }
     ensures kept { λ _. ⌜ Kept target 768 (now (words .entry)) (now (words .exit)) ⌝ }
 {
     let mut k = count;
-    let mut mark = changed;
+    let mut mark = false;
     let mut i = 0;
     while i < n {
         let Grown::Grew {
@@ -346,20 +346,13 @@ fn grow_from(words: &mut [i32], at: usize, target: usize, count: usize, changed:
 }
 
 // Puts the n zones of a slot, in their order.
-fn each_zone(
-    words: &mut [i32],
-    source: usize,
-    n: usize,
-    target: usize,
-    count: usize,
-    changed: bool,
-) -> Grown
+fn each_zone(words: &mut [i32], source: usize, n: usize, target: usize, count: usize) -> Grown
     requires { ⌜ (Source (now words) source n) × (Slot (now words) target count) × (Disjoint source target) ⌝ }
-    ensures grown { λ r. ⌜ GrowsAs (map zone (listAt (now (words .entry)) source n)) changed (now (words .entry)) target count (now (words .exit)) r ⌝ }
+    ensures grown { λ r. ⌜ GrowsAs (map zone (listAt (now (words .entry)) source n)) false (now (words .entry)) target count (now (words .exit)) r ⌝ }
     ensures kept { λ _. ⌜ Kept target 768 (now (words .entry)) (now (words .exit)) ⌝ }
 {
     let mut k = count;
-    let mut mark = changed;
+    let mut mark = false;
     let mut i = 0;
     while i < n {
         let Grown::Grew {
@@ -392,10 +385,14 @@ pub fn union(
     ensures built { λ r. ⌜ BuiltAs (union (listAt (now (words .entry)) left n) (listAt (now (words .entry)) right m)) (now (words .exit)) target r ⌝ }
     ensures kept { λ _. ⌜ Kept target 768 (now (words .entry)) (now (words .exit)) ⌝ }
 {
-    let Grown::Grew { count: k, changed } = each_zone(words, left, n, target, 0, false) else {
+    let Grown::Grew {
+        count: k,
+        changed: _,
+    } = each_zone(words, left, n, target, 0)
+    else {
         return Listed::Overfull;
     };
-    let Grown::Grew { count, changed: _ } = each_zone(words, right, m, target, k, changed) else {
+    let Grown::Grew { count, changed: _ } = each_zone(words, right, m, target, k) else {
         return Listed::Overfull;
     };
     Listed::Count(count)
@@ -415,17 +412,8 @@ fn all_pairs(
     ensures built { λ r. ⌜ BuiltAs (insert-each (pairs op (listAt (now (words .entry)) left n) (listAt (now (words .entry)) right m)) []) (now (words .exit)) target r ⌝ }
     ensures kept { λ _. ⌜ Kept target 768 (now (words .entry)) (now (words .exit)) ⌝ }
 {
-    let Grown::Grew { count, changed: _ } = each_pair(
-        words,
-        op,
-        left,
-        n,
-        right,
-        m,
-        target,
-        0,
-        false,
-    ) else {
+    let Grown::Grew { count, changed: _ } = each_pair(words, op, left, n, right, m, target, 0)
+    else {
         return Listed::Overfull;
     };
     Listed::Count(count)
@@ -499,7 +487,6 @@ fn one_round(words: &mut [i32], list: usize, n: usize, inner: usize, m: usize, c
         m,
         copy,
         n,
-        false,
     ) else {
         return Round::Exceeded;
     };

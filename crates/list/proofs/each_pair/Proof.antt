@@ -7,6 +7,7 @@ use Rattle.list.specs.Insert.{insert-each}
 use Rattle.zone.specs.declared.Zone.{Zone}
 use borrow.Author.Needs.{needs}
 use native.Mathlib.Omega.{arith}
+use mathlib.Core.Bool.{false}
 use mathlib.Core.List.{List}
 use mathlib.Core.Path.{sym, ap, _∙_}
 use Prim.Native.Nat.{_+_, _-_, _*_, _≤_}
@@ -14,10 +15,10 @@ use Rattle.list.proofs.each_pair.Statement.{statement}
 use Rattle.list.proofs.each_pair.Tie as tie
 
 abbrev Inv-loop : tie.InvT-loop
-Inv-loop words₀ op left n right m target count changed k₀ mark₀ i₀ words k mark i = (i ≤ n) × Going (pairs op (listAt words₀ (left + i * 6) (n - i)) (listAt words₀ right m)) (insert-each (pairs op (listAt words₀ left n) (listAt words₀ right m)) (listAt words₀ target count)) changed (listAt words₀ target count) target words₀ words k mark
+Inv-loop words₀ op left n right m target count k₀ mark₀ i₀ words k mark i = (i ≤ n) × Going (pairs op (listAt words₀ (left + i * 6) (n - i)) (listAt words₀ right m)) (insert-each (pairs op (listAt words₀ left n) (listAt words₀ right m)) (listAt words₀ target count)) false (listAt words₀ target count) target words₀ words k mark
 
 abbrev μ-loop : tie.MeasureT-loop
-μ-loop words₀ op left n right m target count changed k₀ mark₀ i₀ words k mark i = n - i
+μ-loop words₀ op left n right m target count k₀ mark₀ i₀ words k mark i = n - i
 
 loop-holds : tie.Need-loop-holds Inv-loop μ-loop
 loop-holds c = (omega arith, going-same (ap (λ (A : List Zone). pairs (c .args .op) A (listAt (c .args .words .now) (c .args .right) (c .args .m))) (sym (all-left _ _ _))) (going-start _ _ _ _ _ (c .pre .2 .few)))
