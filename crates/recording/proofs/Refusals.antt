@@ -58,7 +58,7 @@ both {a = false} p q = (λ e. absurd (impossible e), λ h. p .1 (h .0))
     impossible e = let z : _≡_ {A = ℕ} 0 1 = cc in omega arith
 
 -- after change i
-above-is : (i j m n : ℕ) → Tests (leb j i || ltb m n) (i < j → m < n)
+pub above-is : (i j m n : ℕ) → Tests (leb j i || ltb m n) (i < j → m < n)
 above-is i j m n = go (leb j i) refl
   where
     go : (t : Bool) → leb j i ≡ t → Tests (t || ltb m n) (i < j → m < n)

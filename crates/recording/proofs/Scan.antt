@@ -15,10 +15,9 @@ use Rattle.recording.specs.declared.Cursor.{Cursor}
 use Rattle.recording.specs.declared.Next.the-variants.{Found, None}
 use Rattle.recording.proofs.Levels.{begins-mono, begins-ticks, begins-end, held}
 
--- what the search keeps: change i comes next, at tick a, and no tick from change j up to there has what is wanted
-pub record Seeking (bytes : List ℕ) (channel : ℕ) (level : Level) (from to j : ℕ) (wanted : Bool) (i a : ℕ) : Type 0 where
+-- what the search keeps: change i comes next, and no tick from change j up to there has what is wanted
+pub record Seeking (bytes : List ℕ) (channel : ℕ) (level : Level) (from to j : ℕ) (wanted : Bool) (i : ℕ) : Type 0 where
   pub ahead : j ≤ i
-  pub here : a ≡ begins bytes i
   pub passed : (k : ℕ) → from ≤ k → k < to → begins bytes j ≤ k → k < begins bytes i → Answer (not wanted) (Shows bytes channel level k)
 
 agreed : (a b : Bool) → Bool·beq a b ≡ true → a ≡ b
@@ -50,35 +49,34 @@ early bytes i h = elim (decLe i (changes bytes)) [ yes k ↦ k | no k ↦ absurd
 
 module _ {bytes : List ℕ} {r : Recording} (read : ReadAs bytes r) {channel : ℕ} {level : Level} {from to j : ℕ} {wanted : Bool} where
   -- at change j nothing was passed
-  pub seek-start : {a : ℕ} → a ≡ begins bytes j → Seeking bytes channel level from to j wanted j a
-  seek-start e = record { ahead = omega arith; here = e; passed = λ k _ _ a b. absurd (empty k a b) }
+  pub seek-start : Seeking bytes channel level from to j wanted j
+  seek-start = record { ahead = omega arith; passed = λ k _ _ a b. absurd (empty k a b) }
     where
       empty : (k : ℕ) → begins bytes j ≤ k → k < begins bytes j → ⊥
       empty k a b = omega arith
 
   -- a change without a tick in from..to, or with another answer there, is passed
-  pub seek-on : {i a b : ℕ} → Seeking bytes channel level from to j wanted i a → b ≡ begins bytes (i + 1)
-      → (max from a < min to b → Bool·beq (leaves bytes channel level i) wanted ≡ false) → Seeking bytes channel level from to j wanted (i + 1) b
-  seek-on {i} {a} {b} s e n = record {
+  pub seek-on : {i : ℕ} → Seeking bytes channel level from to j wanted i
+      → (max from (begins bytes i) < min to (begins bytes (i + 1)) → Bool·beq (leaves bytes channel level i) wanted ≡ false) → Seeking bytes channel level from to j wanted (i + 1)
+  seek-on {i} s n = record {
     ahead = let h = s .ahead in omega arith;
-    here = e;
     passed = λ k f t p q. elim (decLe (begins bytes i) k) [
       | no h ↦ s .passed k f t p (omega arith)
-      | yes h ↦ answered (not wanted) (held read channel level i k h q) (other _ wanted (n (omega (arith, s .here))))
+      | yes h ↦ answered (not wanted) (held read channel level i k h q) (other _ wanted (n (omega arith)))
     ];
   }
 
-  -- a change with a tick in from..to and the wanted answer is found
-  pub seek-found : {i a b : ℕ} → Seeking bytes channel level from to j wanted i a → b ≡ begins bytes (i + 1) → max from a < min to b
+  -- a change with the wanted answer is found, if it has a tick in from..to or `to` comes first
+  pub seek-found : {i : ℕ} → Seeking bytes channel level from to j wanted i → (begins bytes i < to → max from (begins bytes i) < min to (begins bytes (i + 1)))
       → Bool·beq (leaves bytes channel level i) wanted ≡ true → Sought bytes channel level from to j wanted i
-  seek-found s e h w = record { ahead = s .ahead; passed = s .passed; fits = λ _. omega (arith, s .here); shown = λ _. agreed _ wanted w }
+  seek-found s h w = record { ahead = s .ahead; passed = s .passed; fits = h; shown = λ _. agreed _ wanted w }
 
-  -- at `to` the search is over
-  pub seek-end : {i a : ℕ} → Seeking bytes channel level from to j wanted i a → to ≤ a → Sought bytes channel level from to j wanted i
-  seek-end {i} s h = record { ahead = s .ahead; passed = s .passed; fits = λ q. absurd (no-more q); shown = λ q. absurd (no-more q) }
+  -- behind the last change the search is over
+  pub seek-end : {i : ℕ} → Seeking bytes channel level from to j wanted i → to ≤ ticks bytes → changes bytes < i → Sought bytes channel level from to j wanted i
+  seek-end {i} s h l = record { ahead = s .ahead; passed = s .passed; fits = λ q. absurd (no-more q); shown = λ q. absurd (no-more q) }
     where
       no-more : begins bytes i < to → ⊥
-      no-more q = omega (arith, s .here)
+      no-more q = omega (arith, begins-end bytes i l)
 
 module _ {bytes : List ℕ} {r : Recording} (read : ReadAs bytes r) {channel : ℕ} {level : Level} {from to end : ℕ} {cursor : Cursor}
     (cut : end ≡ min to (ticks bytes)) {f : ℕ} (first : Sought bytes channel level from end (cursor .change) true f) where

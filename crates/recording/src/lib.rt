@@ -264,6 +264,18 @@ fn later(a: u32, b: u32) -> u32
     if a < b { b } else { a }
 }
 
+// Change i leaves its levels for some tick of from..to, or `to` comes before it.
+fn reaches(bytes: &[u8], recording: Recording, from: u32, to: u32, i: usize) -> bool
+    requires { ⌜ ReadAs (now bytes) recording × (i ≤ recording .changes) ⌝ }
+    ensures { λ r. ⌜ r ≡ (leb to (beginsAt (now (bytes .entry)) i) || ltb (max from (beginsAt (now (bytes .entry)) i)) (min to (beginsAt (now (bytes .entry)) (i + 1)))) ⌝ }
+{
+    let a = begins(bytes, recording, i);
+    if to <= a {
+        return true;
+    }
+    later(from, a) < earlier(to, begins(bytes, recording, i + 1))
+}
+
 // The first change from j on that gives ticks of from..to the level, or another one where it is not wanted.
 fn seek(
     bytes: &[u8],
@@ -279,16 +291,14 @@ fn seek(
     ensures { λ r. ⌜ Sought (now (bytes .entry)) channel level from to j wanted r ⌝ }
 {
     let mut i = j;
-    let mut a = begins(bytes, recording, i);
-    while a < to {
-        let b = begins(bytes, recording, i + 1);
-        if later(from, a) < earlier(to, b) {
-            if leaves(bytes, channel, level, i) == wanted {
+    while i <= recording.changes {
+        // Most changes are of other channels, and a tick takes a division.
+        if leaves(bytes, channel, level, i) == wanted {
+            if reaches(bytes, recording, from, to, i) {
                 return i;
             }
         }
         i += 1;
-        a = b;
     }
     i
 }

@@ -1,70 +1,67 @@
 -- The loop keeps `Seeking`; the changes not yet looked at become fewer.
 use mathlib.Core.Path.{_≡_}
 use mathlib.Core.Logic.{⊎-elim}
-use Prim.Native.Nat.{ℕ, _+_, _-_, _≤_, _<_}
+use mathlib.Core.Bool.{Bool, false, _||_}
+use Prim.Native.Nat.{ℕ, _+_, _-_, _<_}
 use native.Mathlib.Omega.{arith}
+use lib.Dec.{leb, ltb}
 use Rattle.recording.specs.Reading.{changes}
-use Rattle.recording.proofs.Refusals.{read-room}
-use Rattle.recording.proofs.Scan.{Seeking, seek-start, seek-on, seek-found, seek-end, early}
+use Rattle.recording.specs.Scan.{begins}
+use Rattle.recording.proofs.Refusals.{above-is, read-count, read-room}
+use Rattle.recording.proofs.Scan.{Seeking, seek-start, seek-on, seek-found, seek-end}
 use Rattle.recording.proofs.seek.Statement.{statement}
 use Rattle.recording.proofs.seek.Tie as tie
 
 abbrev Inv-loop : tie.InvT-loop
-Inv-loop bytes recording channel level from to j wanted i₀ a₀ i a = Seeking bytes channel level from to j wanted i a
+Inv-loop bytes recording channel level from to j wanted i₀ i = Seeking bytes channel level from to j wanted i
 
 abbrev μ-loop : tie.MeasureT-loop
-μ-loop bytes recording channel level from to j wanted i₀ a₀ i a = changes bytes + 1 - i
+μ-loop bytes recording channel level from to j wanted i₀ i = changes bytes + 1 - i
 
-apart : {x y p q : ℕ} → x < y → p ≡ y → q ≡ x → p ≤ q → ⊥
-apart h a b k = omega arith
-
--- a turn is at a change, or before the first one
-inside : (c : tie.In-loop Inv-loop μ-loop) → c .before .loop .i ≤ changes (c .before .before .before .before .args .bytes .now)
-inside c = early (c .before .before .before .before .args .bytes .now) (c .before .loop .i)
-    (omega (arith, c .loop-test .taken, c .before .loop .inv .here, c .before .before .before .before .pre .1))
-
-begins-requires : tie.Need-begins-requires Inv-loop μ-loop
-begins-requires c κs = c .before .pre .0
+-- a change that does not reach has no tick
+unreached : {t : Bool} (x to m n : ℕ) → t ≡ (leb to x || ltb m n) → t ≡ false → m < n → ⊥
+unreached x to m n e f h =
+    let q = above-is x to m n .1 (λ _. h) in
+    let z : _≡_ {A = ℕ} 0 1 = cc in
+    omega arith
 
 loop-holds : tie.Need-loop-holds Inv-loop μ-loop
-loop-holds c = seek-start (c .before .before .pre .0) (c .begins .ensures)
-
-add-begins : tie.Need-add-begins Inv-loop μ-loop
-add-begins c = omega (arith, inside c, read-room (c .before .before .before .before .pre .0) _ (inside c))
-
-begins-requires-2 : tie.Need-begins-requires-2 Inv-loop μ-loop
-begins-requires-2 c κs = c .before .before .before .before .pre .0
-
-later-requires : tie.Need-later-requires Inv-loop μ-loop
-later-requires c κs = tt
-
-earlier-requires : tie.Need-earlier-requires Inv-loop μ-loop
-earlier-requires c κs = tt
+loop-holds c = seek-start (c .before .pre .0)
 
 leaves-requires : tie.Need-leaves-requires Inv-loop μ-loop
-leaves-requires c κs = omega (arith, read-room (c .before .before .before .before .before .before .before .before .pre .0) _ (inside (c .before .before .before .before)))
+leaves-requires c κs =
+    let read = c .before .before .before .before .pre .0 in
+    omega (arith, read-room read (c .before .before .loop .i) (omega (arith, c .if1 .taken, read-count read)))
+
+reaches-requires : tie.Need-reaches-requires Inv-loop μ-loop
+reaches-requires c κs = (c .before .before .before .before .before .before .pre .0, omega (arith, c .before .before .if1 .taken))
 
 returns : tie.Need-returns Inv-loop μ-loop
 returns c =
-    let turn = c .before .before .before .before .before in
-    seek-found (turn .before .before .before .before .before .pre .0) (turn .before .before .loop .inv) (turn .begins2 .ensures)
-    (omega (arith, c .before .before .if1 .taken, c .before .before .before .earlier .ensures, c .before .before .before .before .later .ensures))
-    (rw (← c .before .leaves .ensures) (c .if2 .taken))
+    seek-found (c .before .before .before .before .before .before .before .before .pre .0) (c .before .before .before .before .before .before .loop .inv)
+    (above-is _ _ _ _ .0 (rw (← c .before .reaches .ensures) (c .if3 .taken)))
+    (rw (← c .before .before .before .leaves .ensures) (c .before .before .if2 .taken))
 
 add-i : tie.Need-add-i Inv-loop μ-loop
-add-i c = omega (arith, inside (c .before .before .before .before), read-room (c .before .before .before .before .before .before .before .before .pre .0) _ (inside (c .before .before .before .before)))
+add-i c =
+    let read = c .before .before .before .before .before .before .pre .0 in
+    omega (arith, c .before .before .if1 .taken, read-room read (c .before .before .before .before .loop .i) (omega (arith, c .before .before .if1 .taken, read-count read)))
 
 loop-less : tie.Need-loop-less Inv-loop μ-loop
-loop-less c = omega (arith, inside (c .before .before .before .before))
+loop-less c = omega (arith, c .before .before .if1 .taken, read-count (c .before .before .before .before .before .before .pre .0))
 
 loop-again : tie.Need-loop-again Inv-loop μ-loop
 loop-again c =
-    seek-on (c .before .before .before .before .before .before .before .before .pre .0) (c .before .before .before .before .before .loop .inv) (c .before .before .before .begins2 .ensures)
-    (λ h. ⊎-elim (λ w. rw (← w .1 .ensures) (w .2 .left))
-    (λ w. absurd (apart h (c .before .earlier .ensures) (c .before .before .later .ensures) (w .left))) (c .if1 .came))
+    let start = c .before .before .before .before .before .before in
+    let turn = c .before .before .before .before in
+    seek-on (start .pre .0) (turn .loop .inv)
+    (λ h. ⊎-elim (λ w. absurd (unreached (begins (start .args .bytes .now) (turn .loop .i)) (start .args .to) _ _ (w .1 .ensures) (w .2 .left) h))
+    (λ w. rw (← c .before .leaves .ensures) (w .left)) (c .if2 .came))
 
 returns-2 : tie.Need-returns-2 Inv-loop μ-loop
-returns-2 c = seek-end (c .before .before .before .before .pre .0) (c .before .loop .inv) (c .loop-test .left)
+returns-2 c =
+    let pre = c .before .before .before .before .pre in
+    seek-end (pre .0) (c .before .before .loop .inv) (pre .1) (omega (arith, c .if1 .left, read-count (pre .0)))
 
 pub seek-spec : {M : Type 1} → statement M
 seek-spec =
@@ -72,13 +69,9 @@ seek-spec =
     (tie.spec
     Inv-loop
     μ-loop
-    begins-requires
     loop-holds
-    add-begins
-    begins-requires-2
-    later-requires
-    earlier-requires
     leaves-requires
+    reaches-requires
     returns
     add-i
     loop-less
