@@ -2,13 +2,13 @@
 use mathlib.Core.Path.{_≡_, refl, sym, ap, subst, _∙_}
 use mathlib.Core.Bool.{Bool, true, false}
 use mathlib.Core.Logic.{_⊎_, inl, inr, ⊎-elim}
-use mathlib.Core.List.{List, [], _∷_, _++_}
+use mathlib.Core.List.{List, [], _∷_, _++_, append-nil}
 use Prim.Native.Nat.{ℕ, zero, suc, _+_, _-_, _*_, _≤_, _<_}
 use native.Mathlib.Omega.{arith}
 use lib.Dec.{ltb}
 use lib.IntN.{ℤ, pos}
-use lib.ListN.{length, set, length-set}
-use lib.Seq.{getD-set-same, getD-set-other}
+use lib.ListN.{length, set, take, drop, length-set, length-append, length-drop, drop-of-length-le, List·getD-append}
+use lib.Seq.{getD-set-same, getD-set-other, length-take-le, take-all, getD-take, getD-drop, getD-append-add}
 use borrow.Author.Tests.{ltb-true, ltb-false}
 use Rattle.zone.specs.declared.Zone.{Zone}
 use Rattle.zone.specs.Words.{word, zoneAt, codes, overwrite}
@@ -154,6 +154,49 @@ copied-more {from} {to} {k} {ws} {vs} c h fits =
     here j e =
         subst (λ (m : ℕ). word (set vs (to + k) (word vs (from + k))) (to + m) ≡ word ws (from + m)) (sym e)
         (getD-set-same vs (to + k) (word vs (from + k)) (pos 0) fits ∙ c .kept .above _ (omega arith))
+
+-- ---- the words from `at` on, lent as a part
+
+module _ (ws : List ℤ) (at : ℕ) (h : at ≤ length ws) where
+  pub part-length : length (take (length ws - at) (drop at ws)) ≡ length ws - at
+  part-length = length-take-le (length ws - at) (drop at ws) (omega (arith, length-drop at ws))
+
+  part-word : (j : ℕ) → word (take (length ws - at) (drop at ws)) j ≡ word ws (at + j)
+  part-word j = ap (λ (us : List ℤ). word us j) (take-all (length ws - at) (drop at ws) (omega (arith, length-drop at ws))) ∙ getD-drop at ws j (pos 0)
+
+  -- all words, with ys in the place of the part
+  abbrev Back : List ℤ → List ℤ
+  Back ys = take at ws ++ (ys ++ drop (length ws - at) (drop at ws))
+
+  back-is : (ys : List ℤ) → Back ys ≡ take at ws ++ ys
+  back-is ys = ap (λ (us : List ℤ). take at ws ++ (ys ++ us)) (drop-of-length-le (drop at ws) {i = length ws - at} (omega (arith, length-drop at ws))) ∙ ap (λ (us : List ℤ). take at ws ++ us) (append-nil ys)
+
+  front : (ys : List ℤ) (k : ℕ) → k < at → word (take at ws ++ ys) k ≡ word ws k
+  front ys k l = List·getD-append (take at ws) ys (pos 0) k (omega (arith, length-take-le at ws h)) ∙ getD-take at ws k (pos 0) l
+
+  behind : (ys : List ℤ) (j : ℕ) → word (take at ws ++ ys) (at + j) ≡ word ys j
+  behind ys j =
+      let e : at + j ≡ length (take at ws) + j = omega (arith, length-take-le at ws h) in
+      ap (word (take at ws ++ ys)) e ∙ getD-append-add (take at ws) ys j (pos 0)
+
+  -- the gap that was closed in the part is closed in all of them
+  pub gap-closed : {n : ℕ} {ys : List ℤ} → Copied 6 0 n (take (length ws - at) (drop at ws)) ys → Copied (at + 6) at n ws (Back ys)
+  gap-closed {n} {ys} c =
+      subst (Copied (at + 6) at n ws) (sym (back-is ys))
+      (record {
+        moved = λ k l.
+            let e : k ≡ 0 + k = omega arith in
+            let f : at + (6 + k) ≡ at + 6 + k = omega arith in
+            behind ys k ∙ ap (word ys) e ∙ c .moved k l ∙ part-word (6 + k) ∙ ap (word ws) f;
+        kept =
+            record {
+              same-length = length-append (take at ws) ys ∙ omega (arith, length-take-le at ws h, c .kept .same-length, part-length);
+              below = front ys;
+              above = λ k l.
+                  let e : k ≡ at + (k - at) = omega arith in
+                  ap (word (take at ws ++ ys)) e ∙ behind ys (k - at) ∙ c .kept .above (k - at) (omega arith) ∙ part-word (k - at) ∙ ap (word ws) (sym e);
+            };
+      })
 
 -- ---- a zone written behind the list
 

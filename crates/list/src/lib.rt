@@ -58,7 +58,7 @@ enum Applied {
 }
 
 // What a new zone meets in a list: a zone that holds it; else only zones apart from it; or one inside it, at this place;
-// or several inside it, none of them before this place.
+// or any number inside it, none of them before this place, so that the rest are to be gone through.
 enum Look {
     Held,
     Apart,
@@ -83,14 +83,15 @@ enum Ended {
     EndedOver,
 }
 
-// Copies n words to a place before them.
-fn copy_words(words: &mut [i32], from: usize, to: usize, n: usize)
-    requires { ⌜ (from + n ≤ length (now words)) × (to ≤ from) ⌝ }
-    ensures { λ _. ⌜ Copied from to n (now (words .entry)) (now (words .exit)) ⌝ }
+// Moves the n words behind the first six of a part to its front. Of words that are all of one part the compiler sees that
+// they go in one move.
+fn close_gap(part: &mut [i32], n: usize)
+    requires { ⌜ n + 6 ≤ length (now part) ⌝ }
+    ensures { λ _. ⌜ Copied 6 0 n (now (part .entry)) (now (part .exit)) ⌝ }
 {
     let mut k = 0;
     while k < n {
-        words[to + k] = words[from + k];
+        part[k] = part[k + 6];
         k += 1;
     }
 }
@@ -194,8 +195,8 @@ fn insert_words(words: &mut [i32], base: usize, count: usize, w: &[i32; 6]) -> I
         Look::Held => Inserted::Away,
         Look::Apart => append(words, base, count, w),
         Look::One(k) => {
-            // The distance is fixed, so that the zones behind it move many words at once.
-            copy_words(words, base + k * 6 + 6, base + k * 6, (count - k - 1) * 6);
+            let gap = base + k * 6;
+            close_gap(&mut words[gap..], (count - k - 1) * 6);
             append(words, base, count - 1, w)
         }
         Look::Several(k) => {

@@ -1,39 +1,46 @@
 -- `insert_words` meets its contract: the look decides whether the zone is turned away, and which zones give way to it. Assumes nothing.
 use mathlib.Core.Path.{refl}
+use Prim.Native.Nat.{_+_, _*_, _<_}
 use native.Mathlib.Omega.{arith}
-use Rattle.list.proofs.Slots.{kept-refl}
+use Rattle.list.proofs.Slots.{kept-refl, part-length, gap-closed}
 use Rattle.list.proofs.Scan.{sifted, all-stay, closed, closed-kept}
 use Rattle.list.proofs.Puts.{insert-away, appended}
 use borrow.Author.Needs.{needs}
 use Rattle.list.proofs.insert_words.Statement.{statement}
 use Rattle.list.proofs.insert_words.Tie as tie
 
-mul-copy-words : tie.Need-mul-copy-words
-mul-copy-words c = let a = rw (c .before .before .k .given .1) at (c .before .before .before .before .look-over .ensures) in omega (arith, a .some)
+-- the zone that gives way is a listed one
+one-inside : (c : tie.After-known-told) → c .before .k .given .0 .0 < c .before .before .before .before .before .args .count
+one-inside c = let a = rw (c .before .k .given .1) at (c .before .before .before .look-over .ensures) in a .some
 
-add-copy-words : tie.Need-add-copy-words
-add-copy-words c = let a = rw (c .before .before .k .given .1) at (c .before .before .before .before .look-over .ensures) in omega (arith, a .some)
+mul-gap : tie.Need-mul-gap
+mul-gap c = omega (arith, one-inside c)
 
-add-copy-words-2 : tie.Need-add-copy-words-2
-add-copy-words-2 c = let a = rw (c .before .before .k .given .1) at (c .before .before .before .before .look-over .ensures) in omega (arith, a .some)
+add-gap : tie.Need-add-gap
+add-gap c = omega (arith, one-inside c)
 
-mul-copy-words-2 : tie.Need-mul-copy-words-2
-mul-copy-words-2 c = let a = rw (c .before .before .k .given .1) at (c .before .before .before .before .look-over .ensures) in omega (arith, a .some)
+mul-close-gap : tie.Need-mul-close-gap
+mul-close-gap c = omega (arith, one-inside c)
 
-add-copy-words-3 : tie.Need-add-copy-words-3
-add-copy-words-3 c = let a = rw (c .before .before .k .given .1) at (c .before .before .before .before .look-over .ensures) in omega (arith, a .some)
+sub-close-gap : tie.Need-sub-close-gap
+sub-close-gap c = omega (arith, one-inside c)
 
-sub-copy-words : tie.Need-sub-copy-words
-sub-copy-words c = let a = rw (c .before .before .k .given .1) at (c .before .before .before .before .look-over .ensures) in omega (arith, a .some)
+part-close-gap-start : tie.Need-part-close-gap-start
+part-close-gap-start c = omega (arith, one-inside c)
 
-sub-copy-words-2 : tie.Need-sub-copy-words-2
-sub-copy-words-2 c = let a = rw (c .before .before .k .given .1) at (c .before .before .before .before .look-over .ensures) in omega (arith, a .some)
+sub-close-gap-2 : tie.Need-sub-close-gap-2
+sub-close-gap-2 c = omega (arith, one-inside (c .before))
 
-copy-words-requires : tie.Need-copy-words-requires
-copy-words-requires c κs = let a = rw (c .before .before .k .given .1) at (c .before .before .before .before .look-over .ensures) in (omega (arith, a .some), omega arith)
+sub-close-gap-3 : tie.Need-sub-close-gap-3
+sub-close-gap-3 c = omega (arith, one-inside (c .before))
+
+close-gap-requires : tie.Need-close-gap-requires
+close-gap-requires c κs =
+    let start = c .before .before .before .before .before .before in
+    omega (arith, one-inside (c .before), part-length (start .args .words .now) (start .args .base + c .before .before .k .given .0 .0 * 6) (omega (arith, one-inside (c .before), start .pre .few, start .pre .room)))
 
 sub-append : tie.Need-sub-append
-sub-append c = let a = rw (c .before .before .before .before .before .k .given .1) at (c .before .before .before .before .before .before .before .look-over .ensures) in omega (arith, a .some)
+sub-append c = omega (arith, one-inside (c .before .before .before .before))
 
 remove-inside-requires : tie.Need-remove-inside-requires
 remove-inside-requires c κs = (c .before .before .before .before .before .before .pre, sifted (rw (c .before .before .k2 .given .1) at (c .before .before .before .before .look-over .ensures)))
@@ -50,8 +57,9 @@ returns-2 c =
 returns-3 : tie.Need-returns-3
 returns-3 c =
     let a = rw (c .before .before .before .before .before .before .before .k .given .1) at (c .before .before .before .before .before .before .before .before .before .look-over .ensures) in
-    let slot = c .before .before .before .before .before .before .before .before .before .before .before .pre in
-    let copied = c .before .before .before .before .copy-words .ensures in
+    let start = c .before .before .before .before .before .before .before .before .before .before .before in
+    let slot = start .pre in
+    let copied = gap-closed (start .args .words .now) (start .args .base + c .before .before .before .before .before .before .before .k .given .0 .0 * 6) (omega (arith, a .some, slot .few, slot .room)) (c .before .before .before .before .close-gap .ensures) in
     appended _ _ _ _ (a .clear .new) (closed a (slot .few) copied) _ (closed-kept a (slot .few) copied) (slot .room) (c .before .append2 .result) (c .before .append2 .ensures)
 
 returns-4 : tie.Need-returns-4
@@ -63,4 +71,4 @@ returns-4 c =
 pub insert-words-spec : {M : Type 1} → statement M
 insert-words-spec =
     tie.close
-    (tie.spec (λ c κs. search needs) (λ c. search needs) (λ c. search needs) (λ c κs. search needs) (λ c. search needs) mul-copy-words add-copy-words add-copy-words-2 mul-copy-words-2 add-copy-words-3 sub-copy-words sub-copy-words-2 (λ c. search needs) copy-words-requires sub-append (λ c κs. search needs) (λ c. search needs) remove-inside-requires (λ c κs. search needs) (λ c. search needs) returns (λ c. search needs) returns-2 (λ c. search needs) returns-3 (λ c. search needs) returns-4)
+    (tie.spec (λ c κs. search needs) (λ c. search needs) (λ c. search needs) (λ c κs. search needs) (λ c. search needs) mul-gap add-gap mul-close-gap sub-close-gap part-close-gap-start (λ c. search needs) sub-close-gap-2 sub-close-gap-3 (λ c. search needs) close-gap-requires sub-append (λ c κs. search needs) (λ c. search needs) remove-inside-requires (λ c κs. search needs) (λ c. search needs) returns (λ c. search needs) returns-2 (λ c. search needs) returns-3 (λ c. search needs) returns-4)
