@@ -360,6 +360,7 @@ fn depths() -> Vec<Case> {
     let right_nested =
         |depth: usize| format!("{}a{}", "!a|(".repeat(depth - 1), ")".repeat(depth - 1));
     let left_nested = |depth: usize| format!("a{}", ".a".repeat(depth - 1));
+    let broad = |rows: usize| vec!["a&a&a&a&a&a&a&a"; rows].join("|");
     vec![
         Case::on_r(format!("a{}", "*".repeat(15))),
         Case::on_r(format!("a{}", "*".repeat(16))),
@@ -369,6 +370,10 @@ fn depths() -> Vec<Case> {
         Case::on_r(left_nested(17)),
         // 255 bytes of joins.
         Case::on_r(left_nested(128)),
+        // A node for each of 63, 64 and 143 bytes, no deeper than 16.
+        Case::on_r(broad(4)),
+        Case::on_r(format!("{}*", broad(4))),
+        Case::on_r(broad(9)),
         // Brackets add nothing.
         Case::on_r(format!(
             "{}a{}{}",

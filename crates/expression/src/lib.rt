@@ -3,7 +3,7 @@
 // of recordings: the channel count is a number. Assumes nothing.
 ghost use mathlib.Core.Path.{_≡_};
 ghost use mathlib.Core.Bool.{_||_};
-ghost use Prim.Native.Nat.{_+_, _-_, _*_, _≤_, _<_, max};
+ghost use Prim.Native.Nat.{_+_, _-_, _*_, _≤_, _<_, max, min};
 ghost use lib.ListN.{length, getD};
 ghost use Rattle.expression.specs.Stored.{decoded, nodeAt};
 ghost use Rattle.expression.specs.Parsing.{ParsedAs};
@@ -189,7 +189,7 @@ fn store(nodes: &mut [u32], n: u32, node: Node)
 
 // Stores a node over the operands that `under` sums up.
 fn add(nodes: &mut [u32], under: Tree, node: Node) -> Tree
-    requires { ⌜ (under .used < 255) × (under .depth ≤ under .used) × (1020 ≤ length (now nodes)) ⌝ }
+    requires { ⌜ (under .used < 255) × (under .depth ≤ under .used) × (under .used * 4 + 4 ≤ length (now nodes)) ⌝ }
     ensures { λ r. ⌜ (r ≡ over under) × Placed (under .used) node (now (nodes .entry)) (now (nodes .exit)) ⌝ }
 {
     let used = under.used;
@@ -333,7 +333,7 @@ fn wrong_range(range: Range) -> bool
 
 // Conjunctions joined by `|`.
 fn alternative(text: &[u8], at: usize, nodes: &mut [u32], used: u32) -> Read
-    requires { ⌜ (length (now text) < 256) × (used ≤ at) × (1020 ≤ length (now nodes)) ⌝ }
+    requires { ⌜ (length (now text) < 256) × (used ≤ at) × (length (now text) * 4 ≤ length (now nodes)) ⌝ }
     ensures { λ r. ⌜ ReadAs (joining bars) (now (text .entry)) at used (now (nodes .entry)) (now (nodes .exit)) r ⌝ }
 {
     let Read::Part(first) = conjunction(text, at, nodes, used) else {
@@ -352,7 +352,7 @@ fn alternative(text: &[u8], at: usize, nodes: &mut [u32], used: u32) -> Read
 
 // Sequences joined by `&`.
 fn conjunction(text: &[u8], at: usize, nodes: &mut [u32], used: u32) -> Read
-    requires { ⌜ (length (now text) < 256) × (used ≤ at) × (1020 ≤ length (now nodes)) ⌝ }
+    requires { ⌜ (length (now text) < 256) × (used ≤ at) × (length (now text) * 4 ≤ length (now nodes)) ⌝ }
     ensures { λ r. ⌜ ReadAs (joining ampersands) (now (text .entry)) at used (now (nodes .entry)) (now (nodes .exit)) r ⌝ }
 {
     let Read::Part(first) = sequence(text, at, nodes, used) else {
@@ -371,7 +371,7 @@ fn conjunction(text: &[u8], at: usize, nodes: &mut [u32], used: u32) -> Read
 
 // Repeats joined by `.`.
 fn sequence(text: &[u8], at: usize, nodes: &mut [u32], used: u32) -> Read
-    requires { ⌜ (length (now text) < 256) × (used ≤ at) × (1020 ≤ length (now nodes)) ⌝ }
+    requires { ⌜ (length (now text) < 256) × (used ≤ at) × (length (now text) * 4 ≤ length (now nodes)) ⌝ }
     ensures { λ r. ⌜ ReadAs (joining dots) (now (text .entry)) at used (now (nodes .entry)) (now (nodes .exit)) r ⌝ }
 {
     let Read::Part(first) = repeat(text, at, nodes, used) else {
@@ -404,7 +404,7 @@ fn extended(tree: Tree, at: usize, wrong: bool) -> Tree
 
 // A primary followed by any number of `*` and `{lo,hi}`.
 fn repeat(text: &[u8], at: usize, nodes: &mut [u32], used: u32) -> Read
-    requires { ⌜ (length (now text) < 256) × (used ≤ at) × (1020 ≤ length (now nodes)) ⌝ }
+    requires { ⌜ (length (now text) < 256) × (used ≤ at) × (length (now text) * 4 ≤ length (now nodes)) ⌝ }
     ensures { λ r. ⌜ ReadAs repeating (now (text .entry)) at used (now (nodes .entry)) (now (nodes .exit)) r ⌝ }
 {
     let Read::Part(first) = primary(text, at, nodes, used) else {
@@ -430,7 +430,7 @@ fn repeat(text: &[u8], at: usize, nodes: &mut [u32], used: u32) -> Read
 
 // A node without operands.
 fn leaf(nodes: &mut [u32], used: u32, at: usize, node: Node, width: u32) -> Read
-    requires { ⌜ (used < 255) × (1020 ≤ length (now nodes)) ⌝ }
+    requires { ⌜ (used < 255) × (used * 4 + 4 ≤ length (now nodes)) ⌝ }
     ensures { λ r. ⌜ (r ≡ Read.Part (over (nothing at used width))) × Placed used node (now (nodes .entry)) (now (nodes .exit)) ⌝ }
 {
     let under = Tree {
@@ -446,7 +446,7 @@ fn leaf(nodes: &mut [u32], used: u32, at: usize, node: Node, width: u32) -> Read
 
 // `_`, a letter, `!` and a letter, or a whole alternative in round brackets.
 fn primary(text: &[u8], at: usize, nodes: &mut [u32], used: u32) -> Read
-    requires { ⌜ (length (now text) < 256) × (used ≤ at) × (1020 ≤ length (now nodes)) ⌝ }
+    requires { ⌜ (length (now text) < 256) × (used ≤ at) × (length (now text) * 4 ≤ length (now nodes)) ⌝ }
     ensures { λ r. ⌜ ReadAs single (now (text .entry)) at used (now (nodes .entry)) (now (nodes .exit)) r ⌝ }
 {
     if byte_is(text, at, b'_') {
@@ -489,9 +489,10 @@ fn closed(text: &[u8], inner: Tree) -> Read
     })
 }
 
-// Reads a whole text. `channels` is the channel count of the recording.
+// Reads a whole text. `channels` is the channel count of the recording. The nodes have room for one for each byte of a text that
+// is not too long.
 pub fn parse(text: &[u8], channels: usize, nodes: &mut [u32]) -> Parsed
-    requires { ⌜ 1020 ≤ length (now nodes) ⌝ }
+    requires { ⌜ min (length (now text)) 255 * 4 ≤ length (now nodes) ⌝ }
     ensures { λ r. ⌜ ParsedAs (now (text .entry)) channels (now (nodes .exit)) r ⌝ }
 {
     if text.len() == 0 {

@@ -16,7 +16,7 @@ use zone::MaybeZone;
 use zone::Zone;
 ghost use mathlib.Core.Path.{_≡_};
 ghost use mathlib.Core.List.{[], _∷_};
-ghost use Prim.Native.Nat.{_+_, _*_, _≤_};
+ghost use Prim.Native.Nat.{_+_, _*_, _≤_, min};
 ghost use lib.ListN.{length};
 ghost use lib.IntN.{pos, negℤ};
 ghost use Rattle.zone.specs.declared.MaybeZone.the-variants.{Zone as zone};
@@ -407,7 +407,29 @@ fn work_out(
     }
 }
 
-// The drill read, and worked out on a recording that has been read.
+// The drill read into the lent nodes, and worked out on a recording that has been read.
+fn read_into(
+    bytes: &[u8],
+    recording: Recording,
+    drill: &[u8],
+    nodes: &mut [u32],
+    answer: &mut [i32],
+    work: &mut [i32],
+) -> Outcome
+    requires { ⌜ (reading largest (now bytes) ≡ Recorded recording) × (min (length (now drill)) 255 * 4 ≤ length (now nodes)) ⌝ }
+    ensures { λ o. ⌜ FindAs (now (bytes .entry)) (now (drill .entry)) (now (answer .entry)) (now (work .entry)) o (now (answer .exit)) (now (work .exit)) ⌝ }
+{
+    match expression::parse(drill, recording.channels as usize, nodes) {
+        Parsed::Root(root) => work_out(bytes, recording, nodes, root, answer, work),
+        Parsed::WrongLength => Outcome::DrillLength,
+        Parsed::NoForm => Outcome::DrillForm,
+        Parsed::WrongLetter => Outcome::DrillLetter,
+        Parsed::WrongRange => Outcome::DrillRange,
+        Parsed::TooDeep => Outcome::DrillDepth,
+    }
+}
+
+// The same with nodes of its own. An array is zeroed for each call, and most drills are short.
 fn read_drill(
     bytes: &[u8],
     recording: Recording,
@@ -418,15 +440,12 @@ fn read_drill(
     requires { ⌜ reading largest (now bytes) ≡ Recorded recording ⌝ }
     ensures { λ o. ⌜ FindAs (now (bytes .entry)) (now (drill .entry)) (now (answer .entry)) (now (work .entry)) o (now (answer .exit)) (now (work .exit)) ⌝ }
 {
-    let mut nodes = [0u32; 1020];
-    match expression::parse(drill, recording.channels as usize, &mut nodes) {
-        Parsed::Root(root) => work_out(bytes, recording, &nodes, root, answer, work),
-        Parsed::WrongLength => Outcome::DrillLength,
-        Parsed::NoForm => Outcome::DrillForm,
-        Parsed::WrongLetter => Outcome::DrillLetter,
-        Parsed::WrongRange => Outcome::DrillRange,
-        Parsed::TooDeep => Outcome::DrillDepth,
+    if drill.len() < 64 {
+        let mut few = [0u32; 252];
+        return read_into(bytes, recording, drill, &mut few, answer, work);
     }
+    let mut nodes = [0u32; 1020];
+    read_into(bytes, recording, drill, &mut nodes, answer, work)
 }
 
 // Lists every stretch of the recording that fits the drill, as zones in front of the answer buffer, or refuses.
