@@ -1,5 +1,5 @@
--- The laws of zones: the page that the crates above cite, so that none of them looks inside a limit. x, y and t are times num / den of
--- any denominators.
+-- The laws of zones: what the crates above cite of them, so that none looks inside a limit. (Laws of times and of words in a buffer have
+-- files of their own.) x, y and t are times num / den of any denominators.
 use mathlib.Core.Path.{_≡_, refl, sym, ap, subst, _∙_}
 use mathlib.Core.Bool.{Bool, true, false, cond}
 use mathlib.Core.Logic.{_↔_}

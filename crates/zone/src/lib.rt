@@ -1,8 +1,9 @@
 // Zones: sets of stretches of time, each given by six upper limits on start, −start, end, −end, end − start and
 // start − end (a difference-bound matrix of three points). The layer knows nothing of recordings or drills.
 //
-// specs/ says what a time, a limit and a zone mean; proofs/Laws.antt is the page that crates above cite. A `requires`
-// is only of ranges, and every tight zone inside 0..1,000,000 meets it (`ranged` in proofs/Laws.antt).
+// specs/ says what a time, a limit and a zone mean; proofs/Laws.antt is the page of laws that crates above cite, beside
+// those of times and of words in a buffer. A `requires` is only of ranges, and every tight zone inside 0..1,000,000
+// meets it (`ranged` in proofs/Laws.antt).
 ghost use mathlib.Core.Path.{_≡_};
 ghost use mathlib.Core.List.{[], _∷_};
 ghost use Prim.Native.Nat.{_+_, _≤_, _<_};
@@ -262,7 +263,7 @@ impl Zone {
     }
 
     // The limits on start and end that a cut between the two zones leaves. Each sum has the other zone's limit first: in this
-    // order the compiler sees that the word of a limit that was just read is the word it was read from.
+    // order the compiler sees of most limits that the word of one that was just read is the word it was read from.
     fn joined(self, other: Zone) -> Zone
         requires { ⌜ (Ranged 1_000_000 self) × (Ranged 1_000_000 other) ⌝ }
         ensures { λ r. ⌜ r ≡ joined self other ⌝ }
