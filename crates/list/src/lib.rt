@@ -83,8 +83,8 @@ enum Ended {
     EndedOver,
 }
 
-// Moves the n words behind the first six of a part to its front. Of words that are all of one part the compiler sees that
-// they go in one move.
+// Moves the n words behind the first six of a part to its front. Both places stand in one part, so that the compiler makes
+// a single move of memory of it.
 fn close_gap(part: &mut [i32], n: usize)
     requires { ⌜ n + 6 ≤ length (now part) ⌝ }
     ensures { λ _. ⌜ Copied 6 0 n (now (part .entry)) (now (part .exit)) ⌝ }

@@ -165,14 +165,30 @@ pub +alternative+conjunction+primary+repeat+sequence-spec : {M : Type 1} → sta
     (λ c. search needs)
     (λ c. search needs)
     -- alternative: returns-2
-    (λ c. joins-stop bars (c .before .before .before .before .before .before .before .before .before .loop .inv .0) (c .before .before .before .before .before .before .before .before .byte-is .ensures .is ∙ c .before .before .before .before .before .before .before .if1 .taken) (c .before .before .before .before .before .before .before .before .byte-is .ensures .inside (c .before .before .before .before .before .before .before .if1 .taken)) (rw (c .enum-told2 .given .1) at (c .before .before .before .before .conjunction2 .ensures)))
+    (λ c.
+    let turn = c .before .before .before .before .before .before .before .before .before in
+    let the-byte-is = c .before .before .before .before .before .before .before .before .byte-is in
+    let the-if1 = c .before .before .before .before .before .before .before .if1 in
+    joins-stop bars (turn .loop .inv .0) (the-byte-is .ensures .is ∙ the-if1 .taken) (the-byte-is .ensures .inside (the-if1 .taken)) (rw (c .enum-told2 .given .1) at (c .before .before .before .before .conjunction2 .ensures)))
     (λ c κs. search needs)
     -- alternative: add-requires
-    (λ c κs. let r = rw (c .before .before .before .right .given .1) at (c .before .before .before .before .before .before .before .conjunction2 .ensures) in let s = c .before .before .before .before .before .before .before .before .before .before .before .before .loop .inv .0 in rw (c .pair .ensures) (omega (arith, r .few, r .inside, s .few, c .before .before .before .before .before .before .before .before .before .before .before .before .before .before .before .before .before .before .before .before .before .before .pre), omega (arith, s .shallow, r .shallow, r .grown), omega (arith, c .before .before .before .before .before .before .before .before .before .before .before .before .before .before .before .before .before .before .before .before .before .before .pre, c .before .before .before .before .before .before .before .before .before .before .before .before .before .before .before .before .before .before .conjunction .kept, c .before .before .before .before .before .before .before .before .before .before .before .before .loop .inv .1, c .before .before .before .before .before .before .before .conjunction2 .kept)))
+    (λ c κs.
+    let start = c .before .before .before .before .before .before .before .before .before .before .before .before .before .before .before .before .before .before .before .before .before .before in
+    let the-conjunction = c .before .before .before .before .before .before .before .before .before .before .before .before .before .before .before .before .before .before .conjunction in
+    let turn = c .before .before .before .before .before .before .before .before .before .before .before .before in
+    let the-conjunction2 = c .before .before .before .before .before .before .before .conjunction2 in
+    let r = rw (c .before .before .before .right .given .1) at (the-conjunction2 .ensures) in let s = turn .loop .inv .0 in rw (c .pair .ensures) (omega (arith, r .few, r .inside, s .few, start .pre), omega (arith, s .shallow, r .shallow, r .grown), omega (arith, start .pre, the-conjunction .kept, turn .loop .inv .1, the-conjunction2 .kept)))
     -- alternative: loop-less
-    (λ c. let r = rw (c .before .before .before .before .before .before .right .given .1) at (c .before .before .before .before .before .before .before .before .before .before .conjunction2 .ensures) in rw (c .before .before .add .ensures .0) (rw (c .before .before .before .pair .ensures) (omega (arith, r .ahead, r .inside))))
+    (λ c.
+    let the-conjunction2 = c .before .before .before .before .before .before .before .before .before .before .conjunction2 in
+    let r = rw (c .before .before .before .before .before .before .right .given .1) at (the-conjunction2 .ensures) in rw (c .before .before .add .ensures .0) (rw (c .before .before .before .pair .ensures) (omega (arith, r .ahead, r .inside))))
     -- alternative: loop-again
-    (λ c. let r = rw (c .before .before .before .before .before .before .right .given .1) at (c .before .before .before .before .before .before .before .before .before .before .conjunction2 .ensures) in (joins-on-to bars (c .before .before .before .before .before .before .before .before .before .before .before .before .before .before .before .loop .inv .0) (c .before .before .before .before .before .before .before .before .before .before .before .before .before .before .byte-is .ensures .is ∙ c .before .before .before .before .before .before .before .before .before .before .before .before .before .if1 .taken) (c .before .before .before .before .before .before .before .before .before .before .before .before .before .before .byte-is .ensures .inside (c .before .before .before .before .before .before .before .before .before .before .before .before .before .if1 .taken)) r (c .before .before .before .pair .ensures) (c .before .before .add .ensures .0) (c .before .before .add .ensures .1), omega (arith, c .before .before .add .kept, c .before .before .before .before .before .before .before .before .before .before .conjunction2 .kept, c .before .before .before .before .before .before .before .before .before .before .before .before .before .before .before .loop .inv .1)))
+    (λ c.
+    let turn = c .before .before .before .before .before .before .before .before .before .before .before .before .before .before .before in
+    let the-byte-is = c .before .before .before .before .before .before .before .before .before .before .before .before .before .before .byte-is in
+    let the-if1 = c .before .before .before .before .before .before .before .before .before .before .before .before .before .if1 in
+    let the-conjunction2 = c .before .before .before .before .before .before .before .before .before .before .conjunction2 in
+    let r = rw (c .before .before .before .before .before .before .right .given .1) at (the-conjunction2 .ensures) in (joins-on-to bars (turn .loop .inv .0) (the-byte-is .ensures .is ∙ the-if1 .taken) (the-byte-is .ensures .inside (the-if1 .taken)) r (c .before .before .before .pair .ensures) (c .before .before .add .ensures .0) (c .before .before .add .ensures .1), omega (arith, c .before .before .add .kept, the-conjunction2 .kept, turn .loop .inv .1)))
     (λ c. search needs)
     -- alternative: returns-3
     (λ c. joins-end bars (c .before .before .loop .inv .0) ((rw (c .before .before .before .before .first .given .1) at (c .before .before .before .before .before .before .before .before .conjunction .ensures)) .kept) (c .before .byte-is .ensures .is ∙ c .if1 .left)))
@@ -207,14 +223,30 @@ pub +alternative+conjunction+primary+repeat+sequence-spec : {M : Type 1} → sta
     (λ c. search needs)
     (λ c. search needs)
     -- conjunction: returns-2
-    (λ c. joins-stop ampersands (c .before .before .before .before .before .before .before .before .before .loop .inv .0) (c .before .before .before .before .before .before .before .before .byte-is .ensures .is ∙ c .before .before .before .before .before .before .before .if1 .taken) (c .before .before .before .before .before .before .before .before .byte-is .ensures .inside (c .before .before .before .before .before .before .before .if1 .taken)) (rw (c .enum-told2 .given .1) at (c .before .before .before .before .sequence2 .ensures)))
+    (λ c.
+    let turn = c .before .before .before .before .before .before .before .before .before in
+    let the-byte-is = c .before .before .before .before .before .before .before .before .byte-is in
+    let the-if1 = c .before .before .before .before .before .before .before .if1 in
+    joins-stop ampersands (turn .loop .inv .0) (the-byte-is .ensures .is ∙ the-if1 .taken) (the-byte-is .ensures .inside (the-if1 .taken)) (rw (c .enum-told2 .given .1) at (c .before .before .before .before .sequence2 .ensures)))
     (λ c κs. search needs)
     -- conjunction: add-requires
-    (λ c κs. let r = rw (c .before .before .before .right .given .1) at (c .before .before .before .before .before .before .before .sequence2 .ensures) in let s = c .before .before .before .before .before .before .before .before .before .before .before .before .loop .inv .0 in rw (c .pair .ensures) (omega (arith, r .few, r .inside, s .few, c .before .before .before .before .before .before .before .before .before .before .before .before .before .before .before .before .before .before .before .before .before .before .pre), omega (arith, s .shallow, r .shallow, r .grown), omega (arith, c .before .before .before .before .before .before .before .before .before .before .before .before .before .before .before .before .before .before .before .before .before .before .pre, c .before .before .before .before .before .before .before .before .before .before .before .before .before .before .before .before .before .before .sequence .kept, c .before .before .before .before .before .before .before .before .before .before .before .before .loop .inv .1, c .before .before .before .before .before .before .before .sequence2 .kept)))
+    (λ c κs.
+    let start = c .before .before .before .before .before .before .before .before .before .before .before .before .before .before .before .before .before .before .before .before .before .before in
+    let the-sequence = c .before .before .before .before .before .before .before .before .before .before .before .before .before .before .before .before .before .before .sequence in
+    let turn = c .before .before .before .before .before .before .before .before .before .before .before .before in
+    let the-sequence2 = c .before .before .before .before .before .before .before .sequence2 in
+    let r = rw (c .before .before .before .right .given .1) at (the-sequence2 .ensures) in let s = turn .loop .inv .0 in rw (c .pair .ensures) (omega (arith, r .few, r .inside, s .few, start .pre), omega (arith, s .shallow, r .shallow, r .grown), omega (arith, start .pre, the-sequence .kept, turn .loop .inv .1, the-sequence2 .kept)))
     -- conjunction: loop-less
-    (λ c. let r = rw (c .before .before .before .before .before .before .right .given .1) at (c .before .before .before .before .before .before .before .before .before .before .sequence2 .ensures) in rw (c .before .before .add .ensures .0) (rw (c .before .before .before .pair .ensures) (omega (arith, r .ahead, r .inside))))
+    (λ c.
+    let the-sequence2 = c .before .before .before .before .before .before .before .before .before .before .sequence2 in
+    let r = rw (c .before .before .before .before .before .before .right .given .1) at (the-sequence2 .ensures) in rw (c .before .before .add .ensures .0) (rw (c .before .before .before .pair .ensures) (omega (arith, r .ahead, r .inside))))
     -- conjunction: loop-again
-    (λ c. let r = rw (c .before .before .before .before .before .before .right .given .1) at (c .before .before .before .before .before .before .before .before .before .before .sequence2 .ensures) in (joins-on-to ampersands (c .before .before .before .before .before .before .before .before .before .before .before .before .before .before .before .loop .inv .0) (c .before .before .before .before .before .before .before .before .before .before .before .before .before .before .byte-is .ensures .is ∙ c .before .before .before .before .before .before .before .before .before .before .before .before .before .if1 .taken) (c .before .before .before .before .before .before .before .before .before .before .before .before .before .before .byte-is .ensures .inside (c .before .before .before .before .before .before .before .before .before .before .before .before .before .if1 .taken)) r (c .before .before .before .pair .ensures) (c .before .before .add .ensures .0) (c .before .before .add .ensures .1), omega (arith, c .before .before .add .kept, c .before .before .before .before .before .before .before .before .before .before .sequence2 .kept, c .before .before .before .before .before .before .before .before .before .before .before .before .before .before .before .loop .inv .1)))
+    (λ c.
+    let turn = c .before .before .before .before .before .before .before .before .before .before .before .before .before .before .before in
+    let the-byte-is = c .before .before .before .before .before .before .before .before .before .before .before .before .before .before .byte-is in
+    let the-if1 = c .before .before .before .before .before .before .before .before .before .before .before .before .before .if1 in
+    let the-sequence2 = c .before .before .before .before .before .before .before .before .before .before .sequence2 in
+    let r = rw (c .before .before .before .before .before .before .right .given .1) at (the-sequence2 .ensures) in (joins-on-to ampersands (turn .loop .inv .0) (the-byte-is .ensures .is ∙ the-if1 .taken) (the-byte-is .ensures .inside (the-if1 .taken)) r (c .before .before .before .pair .ensures) (c .before .before .add .ensures .0) (c .before .before .add .ensures .1), omega (arith, c .before .before .add .kept, the-sequence2 .kept, turn .loop .inv .1)))
     (λ c. search needs)
     -- conjunction: returns-3
     (λ c. joins-end ampersands (c .before .before .loop .inv .0) ((rw (c .before .before .before .before .first .given .1) at (c .before .before .before .before .before .before .before .before .sequence .ensures)) .kept) (c .before .byte-is .ensures .is ∙ c .if1 .left)))
@@ -239,7 +271,10 @@ pub +alternative+conjunction+primary+repeat+sequence-spec : {M : Type 1} → sta
     (λ c κs. let l = c .before .before .byte-is .ensures .inside (c .before .if1 .taken) in search needs)
     (λ c. search needs)
     -- primary: returns
-    (λ c. rw (c .before .before .leaf .ensures .0) (leaf-epsilon _ _ _ (c .before .before .before .before .before .byte-is .ensures .is ∙ c .before .before .before .before .if1 .taken) (c .before .before .before .before .before .byte-is .ensures .inside (c .before .before .before .before .if1 .taken)) (c .before .before .leaf .ensures .1)))
+    (λ c.
+    let the-byte-is = c .before .before .before .before .before .byte-is in
+    let the-if1 = c .before .before .before .before .if1 in
+    rw (c .before .before .leaf .ensures .0) (leaf-epsilon _ _ _ (the-byte-is .ensures .is ∙ the-if1 .taken) (the-byte-is .ensures .inside (the-if1 .taken)) (c .before .before .leaf .ensures .1)))
     (λ c κs. search needs)
     -- primary: add-offset-at
     (λ c. omega (arith, c .before .byte-is2 .ensures .inside (c .if2 .taken)))
@@ -247,7 +282,9 @@ pub +alternative+conjunction+primary+repeat+sequence-spec : {M : Type 1} → sta
     (λ c. search needs)
     (λ c. search needs)
     -- primary: returns-2
-    (λ c. marked-stop _ _ (c .before .before .before .before .before .before .byte-is .ensures .is ∙ c .before .before .before .before .before .if1 .left) (c .before .before .before .before .byte-is2 .ensures .is ∙ c .before .before .before .if2 .taken) (c .before .before .before .before .byte-is2 .ensures .inside (c .before .before .before .if2 .taken)) (rw (c .enum-told .given .1) at (c .before .before .offset-at .ensures)))
+    (λ c.
+    let the-byte-is2 = c .before .before .before .before .byte-is2 in
+    marked-stop _ _ (c .before .before .before .before .before .before .byte-is .ensures .is ∙ c .before .before .before .before .before .if1 .left) (the-byte-is2 .ensures .is ∙ c .before .before .before .if2 .taken) (the-byte-is2 .ensures .inside (c .before .before .before .if2 .taken)) (rw (c .enum-told .given .1) at (c .before .before .offset-at .ensures)))
     -- primary: add-leaf-2
     (λ c. let o = rw (c .before .before .channel .given .1) at (c .before .before .before .before .offset-at .ensures) in omega (arith, o .inside))
     -- primary: add-leaf-3
@@ -256,7 +293,12 @@ pub +alternative+conjunction+primary+repeat+sequence-spec : {M : Type 1} → sta
     (λ c κs. let l = c .before .before .before .before .before .before .byte-is2 .ensures .inside (c .before .before .before .before .before .if2 .taken) in search needs)
     (λ c. search needs)
     -- primary: returns-3
-    (λ c. let o = rw (c .before .before .before .before .before .channel .given .1) at (c .before .before .before .before .before .before .before .offset-at .ensures) in rw (c .before .before .leaf2 .ensures .0) (leaf-low _ _ _ (c .before .before .before .before .before .before .before .before .before .before .before .byte-is .ensures .is ∙ c .before .before .before .before .before .before .before .before .before .before .if1 .left) (c .before .before .before .before .before .before .before .before .before .byte-is2 .ensures .is ∙ c .before .before .before .before .before .before .before .before .if2 .taken) (c .before .before .before .before .before .before .before .before .before .byte-is2 .ensures .inside (c .before .before .before .before .before .before .before .before .if2 .taken)) o (c .before .before .leaf2 .ensures .1)))
+    (λ c.
+    let the-byte-is = c .before .before .before .before .before .before .before .before .before .before .before .byte-is in
+    let the-if1 = c .before .before .before .before .before .before .before .before .before .before .if1 in
+    let the-byte-is2 = c .before .before .before .before .before .before .before .before .before .byte-is2 in
+    let the-if2 = c .before .before .before .before .before .before .before .before .if2 in
+    let o = rw (c .before .before .before .before .before .channel .given .1) at (c .before .before .before .before .before .before .before .offset-at .ensures) in rw (c .before .before .leaf2 .ensures .0) (leaf-low _ _ _ (the-byte-is .ensures .is ∙ the-if1 .left) (the-byte-is2 .ensures .is ∙ the-if2 .taken) (the-byte-is2 .ensures .inside (the-if2 .taken)) o (c .before .before .leaf2 .ensures .1)))
     (λ c κs. search needs)
     -- primary: add-alternative
     (λ c. omega (arith, c .before .byte-is3 .ensures .inside (c .if3 .taken)))
@@ -266,16 +308,33 @@ pub +alternative+conjunction+primary+repeat+sequence-spec : {M : Type 1} → sta
     (λ c. search needs)
     (λ c. search needs)
     -- primary: returns-4
-    (λ c. bracketed-stop _ _ (c .before .before .before .before .before .before .before .before .before .before .before .byte-is .ensures .is ∙ c .before .before .before .before .before .before .before .before .before .before .if1 .left) (c .before .before .before .before .before .before .before .before .before .byte-is2 .ensures .is ∙ c .before .before .before .before .before .before .before .before .if2 .left) (c .before .before .before .before .before .before .before .byte-is3 .ensures .is ∙ c .before .before .before .before .before .before .if3 .taken) (c .before .before .before .before .before .before .before .byte-is3 .ensures .inside (c .before .before .before .before .before .before .if3 .taken)) (rw (c .enum-told2 .given .1) at (c .before .before .before .before .alternative .ensures)))
+    (λ c.
+    let the-byte-is = c .before .before .before .before .before .before .before .before .before .before .before .byte-is in
+    let the-if1 = c .before .before .before .before .before .before .before .before .before .before .if1 in
+    let the-byte-is2 = c .before .before .before .before .before .before .before .before .before .byte-is2 in
+    let the-if2 = c .before .before .before .before .before .before .before .before .if2 in
+    let the-byte-is3 = c .before .before .before .before .before .before .before .byte-is3 in
+    let the-if3 = c .before .before .before .before .before .before .if3 in
+    bracketed-stop _ _ (the-byte-is .ensures .is ∙ the-if1 .left) (the-byte-is2 .ensures .is ∙ the-if2 .left) (the-byte-is3 .ensures .is ∙ the-if3 .taken) (the-byte-is3 .ensures .inside (the-if3 .taken)) (rw (c .enum-told2 .given .1) at (c .before .before .before .before .alternative .ensures)))
     (λ c κs. search needs)
     (λ c. search needs)
     -- primary: returns-5
-    (λ c. bracketed-as _ _ (c .before .before .before .before .before .before .before .before .before .before .before .before .before .byte-is .ensures .is ∙ c .before .before .before .before .before .before .before .before .before .before .before .before .if1 .left) (c .before .before .before .before .before .before .before .before .before .before .before .byte-is2 .ensures .is ∙ c .before .before .before .before .before .before .before .before .before .before .if2 .left) (c .before .before .before .before .before .before .before .before .before .byte-is3 .ensures .is ∙ c .before .before .before .before .before .before .before .before .if3 .taken) (c .before .before .before .before .before .before .before .before .before .byte-is3 .ensures .inside (c .before .before .before .before .before .before .before .before .if3 .taken)) (rw (c .before .before .inner .given .1) at (c .before .before .before .before .before .before .alternative .ensures)) (c .closed .result) (c .closed .ensures))
+    (λ c.
+    let the-byte-is = c .before .before .before .before .before .before .before .before .before .before .before .before .before .byte-is in
+    let the-if1 = c .before .before .before .before .before .before .before .before .before .before .before .before .if1 in
+    let the-byte-is2 = c .before .before .before .before .before .before .before .before .before .before .before .byte-is2 in
+    let the-if2 = c .before .before .before .before .before .before .before .before .before .before .if2 in
+    let the-byte-is3 = c .before .before .before .before .before .before .before .before .before .byte-is3 in
+    let the-if3 = c .before .before .before .before .before .before .before .before .if3 in
+    bracketed-as _ _ (the-byte-is .ensures .is ∙ the-if1 .left) (the-byte-is2 .ensures .is ∙ the-if2 .left) (the-byte-is3 .ensures .is ∙ the-if3 .taken) (the-byte-is3 .ensures .inside (the-if3 .taken)) (rw (c .before .before .inner .given .1) at (c .before .before .before .before .before .before .alternative .ensures)) (c .closed .result) (c .closed .ensures))
     (λ c κs. search needs)
     (λ c. search needs)
     (λ c. search needs)
     -- primary: returns-6
-    (λ c. plain-stop (c .before .before .before .before .before .before .before .before .before .before .before .args .text .now) (c .before .before .before .before .before .before .before .before .before .before .before .args .at) (c .before .before .before .before .before .before .before .before .byte-is .ensures .is ∙ c .before .before .before .before .before .before .before .if1 .left) (c .before .before .before .before .before .before .byte-is2 .ensures .is ∙ c .before .before .before .before .before .if2 .left) (c .before .before .before .before .byte-is3 .ensures .is ∙ c .before .before .before .if3 .left) (rw (c .enum-told3 .given .1) at (c .before .before .offset-at2 .ensures)))
+    (λ c.
+    let start = c .before .before .before .before .before .before .before .before .before .before .before in
+    let the-byte-is = c .before .before .before .before .before .before .before .before .byte-is in
+    plain-stop (start .args .text .now) (start .args .at) (the-byte-is .ensures .is ∙ c .before .before .before .before .before .before .before .if1 .left) (c .before .before .before .before .before .before .byte-is2 .ensures .is ∙ c .before .before .before .before .before .if2 .left) (c .before .before .before .before .byte-is3 .ensures .is ∙ c .before .before .before .if3 .left) (rw (c .enum-told3 .given .1) at (c .before .before .offset-at2 .ensures)))
     -- primary: add-leaf-4
     (λ c. let o = rw (c .before .before .channel2 .given .1) at (c .before .before .before .before .offset-at2 .ensures) in omega (arith, o .inside))
     -- primary: add-leaf-5
@@ -284,7 +343,14 @@ pub +alternative+conjunction+primary+repeat+sequence-spec : {M : Type 1} → sta
     (λ c κs. let o = rw (c .before .before .channel2 .given .1) at (c .before .before .before .before .offset-at2 .ensures) in let l = o .inside in search needs)
     (λ c. search needs)
     -- primary: returns-7
-    (λ c. let o = rw (c .before .before .before .before .before .channel2 .given .1) at (c .before .before .before .before .before .before .before .offset-at2 .ensures) in rw (c .before .before .leaf3 .ensures .0) (leaf-high _ _ _ (c .before .before .before .before .before .before .before .before .before .before .before .before .before .byte-is .ensures .is ∙ c .before .before .before .before .before .before .before .before .before .before .before .before .if1 .left) (c .before .before .before .before .before .before .before .before .before .before .before .byte-is2 .ensures .is ∙ c .before .before .before .before .before .before .before .before .before .before .if2 .left) (c .before .before .before .before .before .before .before .before .before .byte-is3 .ensures .is ∙ c .before .before .before .before .before .before .before .before .if3 .left) o (c .before .before .leaf3 .ensures .1))))
+    (λ c.
+    let the-byte-is = c .before .before .before .before .before .before .before .before .before .before .before .before .before .byte-is in
+    let the-if1 = c .before .before .before .before .before .before .before .before .before .before .before .before .if1 in
+    let the-byte-is2 = c .before .before .before .before .before .before .before .before .before .before .before .byte-is2 in
+    let the-if2 = c .before .before .before .before .before .before .before .before .before .before .if2 in
+    let the-byte-is3 = c .before .before .before .before .before .before .before .before .before .byte-is3 in
+    let the-if3 = c .before .before .before .before .before .before .before .before .if3 in
+    let o = rw (c .before .before .before .before .before .channel2 .given .1) at (c .before .before .before .before .before .before .before .offset-at2 .ensures) in rw (c .before .before .leaf3 .ensures .0) (leaf-high _ _ _ (the-byte-is .ensures .is ∙ the-if1 .left) (the-byte-is2 .ensures .is ∙ the-if2 .left) (the-byte-is3 .ensures .is ∙ the-if3 .left) o (c .before .before .leaf3 .ensures .1))))
     (λ t. repeat-lts.spec (
       primary-below t,
       primary.Post,
@@ -316,15 +382,25 @@ pub +alternative+conjunction+primary+repeat+sequence-spec : {M : Type 1} → sta
     (λ c. omega (arith, c .before .before .before .byte-is .ensures .inside (c .before .before .if1 .taken)))
     (λ c κs. search needs)
     -- repeat: add-requires
-    (λ c κs. let l = c .before .before .before .before .byte-is .ensures .inside (c .before .before .before .if1 .taken) in let s = c .before .before .before .before .before .loop .inv .0 in rw (c .extended .ensures) (omega (arith, s .few, c .before .before .before .before .before .before .before .before .before .before .before .before .before .before .before .pre), s .shallow, omega (arith, c .before .before .before .before .before .before .before .before .before .before .before .before .before .before .before .pre, c .before .before .before .before .before .before .before .before .before .before .before .primary .kept, c .before .before .before .before .before .loop .inv .1)))
+    (λ c κs.
+    let start = c .before .before .before .before .before .before .before .before .before .before .before .before .before .before .before in
+    let the-primary = c .before .before .before .before .before .before .before .before .before .before .before .primary in
+    let turn = c .before .before .before .before .before in
+    let l = c .before .before .before .before .byte-is .ensures .inside (c .before .before .before .if1 .taken) in let s = turn .loop .inv .0 in rw (c .extended .ensures) (omega (arith, s .few, start .pre), s .shallow, omega (arith, start .pre, the-primary .kept, turn .loop .inv .1)))
     -- repeat: loop-less
     (λ c. rw (c .before .before .add .ensures .0) (rw (c .before .before .before .extended .ensures) (omega (arith, c .before .before .before .before .before .before .before .byte-is .ensures .inside (c .before .before .before .before .before .before .if1 .taken)))))
     -- repeat: loop-again
-    (λ c. (marks-star-on (c .before .before .before .before .before .before .before .before .loop .inv .0) (c .before .before .before .before .before .before .before .byte-is .ensures .is ∙ c .before .before .before .before .before .before .if1 .taken) (c .before .before .before .before .before .before .before .byte-is .ensures .inside (c .before .before .before .before .before .before .if1 .taken)) (c .before .before .before .extended .ensures) (c .before .before .add .ensures .0) (c .before .before .add .ensures .1), omega (arith, c .before .before .add .kept, c .before .before .before .before .before .before .before .before .loop .inv .1)))
+    (λ c.
+    let turn = c .before .before .before .before .before .before .before .before in
+    let the-byte-is = c .before .before .before .before .before .before .before .byte-is in
+    let the-if1 = c .before .before .before .before .before .before .if1 in
+    (marks-star-on (turn .loop .inv .0) (the-byte-is .ensures .is ∙ the-if1 .taken) (the-byte-is .ensures .inside (the-if1 .taken)) (c .before .before .before .extended .ensures) (c .before .before .add .ensures .0) (c .before .before .add .ensures .1), omega (arith, c .before .before .add .kept, turn .loop .inv .1)))
     (λ c κs. search needs)
     (λ c. search needs)
     -- repeat: returns-2
-    (λ c. marks-end (c .before .before .before .before .loop .inv .0) ((rw (c .before .before .before .before .before .before .first .given .1) at (c .before .before .before .before .before .before .before .before .before .before .primary .ensures)) .kept) (c .before .before .before .byte-is .ensures .is ∙ c .before .before .if1 .left) (c .before .byte-is2 .ensures .is ∙ not-true (c .before .byte-is2 .result) (c .if2 .taken)))
+    (λ c.
+    let the-primary = c .before .before .before .before .before .before .before .before .before .before .primary in
+    marks-end (c .before .before .before .before .loop .inv .0) ((rw (c .before .before .before .before .before .before .first .given .1) at (the-primary .ensures)) .kept) (c .before .before .before .byte-is .ensures .is ∙ c .before .before .if1 .left) (c .before .byte-is2 .ensures .is ∙ not-true (c .before .byte-is2 .result) (c .if2 .taken)))
     -- repeat: add-range-at
     (λ c. let m = not-false (c .before .before .byte-is2 .result) (c .before .if2 .left) in omega (arith, c .before .before .byte-is2 .ensures .inside m))
     (λ c κs. search needs)
@@ -332,15 +408,33 @@ pub +alternative+conjunction+primary+repeat+sequence-spec : {M : Type 1} → sta
     (λ c. search needs)
     (λ c. search needs)
     -- repeat: returns-3
-    (λ c. let m = not-false (c .before .before .before .before .before .byte-is2 .result) (c .before .before .before .before .if2 .left) in marks-band-stop (c .before .before .before .before .before .before .before .before .loop .inv .0) (c .before .before .before .before .before .before .before .byte-is .ensures .is ∙ c .before .before .before .before .before .before .if1 .left) (c .before .before .before .before .before .byte-is2 .ensures .is ∙ m) (c .before .before .before .before .before .byte-is2 .ensures .inside m) (rw (c .enum-told2 .given .1) at (c .before .before .range-at .ensures)))
+    (λ c.
+    let turn = c .before .before .before .before .before .before .before .before in
+    let the-byte-is2 = c .before .before .before .before .before .byte-is2 in
+    let m = not-false (the-byte-is2 .result) (c .before .before .before .before .if2 .left) in marks-band-stop (turn .loop .inv .0) (c .before .before .before .before .before .before .before .byte-is .ensures .is ∙ c .before .before .before .before .before .before .if1 .left) (the-byte-is2 .ensures .is ∙ m) (the-byte-is2 .ensures .inside m) (rw (c .enum-told2 .given .1) at (c .before .before .range-at .ensures)))
     (λ c κs. search needs)
     (λ c κs. search needs)
     -- repeat: add-requires-2
-    (λ c κs. let m = not-false (c .before .before .before .before .before .before .before .before .before .byte-is2 .result) (c .before .before .before .before .before .before .before .before .if2 .left) in let l = c .before .before .before .before .before .before .before .before .before .byte-is2 .ensures .inside m in let s = c .before .before .before .before .before .before .before .before .before .before .before .before .loop .inv .0 in rw (c .extended2 .ensures) (omega (arith, s .few, c .before .before .before .before .before .before .before .before .before .before .before .before .before .before .before .before .before .before .before .before .before .before .pre), s .shallow, omega (arith, c .before .before .before .before .before .before .before .before .before .before .before .before .before .before .before .before .before .before .before .before .before .before .pre, c .before .before .before .before .before .before .before .before .before .before .before .before .before .before .before .before .before .before .primary .kept, c .before .before .before .before .before .before .before .before .before .before .before .before .loop .inv .1)))
+    (λ c κs.
+    let start = c .before .before .before .before .before .before .before .before .before .before .before .before .before .before .before .before .before .before .before .before .before .before in
+    let the-primary = c .before .before .before .before .before .before .before .before .before .before .before .before .before .before .before .before .before .before .primary in
+    let turn = c .before .before .before .before .before .before .before .before .before .before .before .before in
+    let the-byte-is2 = c .before .before .before .before .before .before .before .before .before .byte-is2 in
+    let the-if2 = c .before .before .before .before .before .before .before .before .if2 in
+    let m = not-false (the-byte-is2 .result) (the-if2 .left) in let l = the-byte-is2 .ensures .inside m in let s = turn .loop .inv .0 in rw (c .extended2 .ensures) (omega (arith, s .few, start .pre), s .shallow, omega (arith, start .pre, the-primary .kept, turn .loop .inv .1)))
     -- repeat: loop-less-2
-    (λ c. let x = rw (c .before .before .before .before .before .before .before .end .given .1) at (c .before .before .before .before .before .before .before .before .before .range-at .ensures) in rw (c .before .before .add2 .ensures .0) (rw (c .before .before .before .extended2 .ensures) (omega (arith, x .ahead, x .inside))))
+    (λ c.
+    let the-range-at = c .before .before .before .before .before .before .before .before .before .range-at in
+    let x = rw (c .before .before .before .before .before .before .before .end .given .1) at (the-range-at .ensures) in rw (c .before .before .add2 .ensures .0) (rw (c .before .before .before .extended2 .ensures) (omega (arith, x .ahead, x .inside))))
     -- repeat: loop-again-2
-    (λ c. let m = not-false (c .before .before .before .before .before .before .before .before .before .before .before .before .byte-is2 .result) (c .before .before .before .before .before .before .before .before .before .before .before .if2 .left) in let x = rw (c .before .before .before .before .before .before .before .end .given .1) at (c .before .before .before .before .before .before .before .before .before .range-at .ensures) in (marks-band-on (c .before .before .before .before .before .before .before .before .before .before .before .before .before .before .before .loop .inv .0) (c .before .before .before .before .before .before .before .before .before .before .before .before .before .before .byte-is .ensures .is ∙ c .before .before .before .before .before .before .before .before .before .before .before .before .before .if1 .left) (c .before .before .before .before .before .before .before .before .before .before .before .before .byte-is2 .ensures .is ∙ m) (c .before .before .before .before .before .before .before .before .before .before .before .before .byte-is2 .ensures .inside m) x (c .before .before .before .before .wrong-range .ensures ∙ ap wrongRange (x .is) ∙ capped-wrong (x .x)) (c .before .before .before .extended2 .ensures) (c .before .before .add2 .ensures .0) (c .before .before .add2 .ensures .1), omega (arith, c .before .before .add2 .kept, c .before .before .before .before .before .before .before .before .before .before .before .before .before .before .before .loop .inv .1))))
+    (λ c.
+    let turn = c .before .before .before .before .before .before .before .before .before .before .before .before .before .before .before in
+    let the-byte-is = c .before .before .before .before .before .before .before .before .before .before .before .before .before .before .byte-is in
+    let the-if1 = c .before .before .before .before .before .before .before .before .before .before .before .before .before .if1 in
+    let the-byte-is2 = c .before .before .before .before .before .before .before .before .before .before .before .before .byte-is2 in
+    let the-if2 = c .before .before .before .before .before .before .before .before .before .before .before .if2 in
+    let the-range-at = c .before .before .before .before .before .before .before .before .before .range-at in
+    let m = not-false (the-byte-is2 .result) (the-if2 .left) in let x = rw (c .before .before .before .before .before .before .before .end .given .1) at (the-range-at .ensures) in (marks-band-on (turn .loop .inv .0) (the-byte-is .ensures .is ∙ the-if1 .left) (the-byte-is2 .ensures .is ∙ m) (the-byte-is2 .ensures .inside m) x (c .before .before .before .before .wrong-range .ensures ∙ ap wrongRange (x .is) ∙ capped-wrong (x .x)) (c .before .before .before .extended2 .ensures) (c .before .before .add2 .ensures .0) (c .before .before .add2 .ensures .1), omega (arith, c .before .before .add2 .kept, turn .loop .inv .1))))
     λ t. sequence-lts.spec (
       repeat-below t,
       repeat.Post,
@@ -372,14 +466,30 @@ pub +alternative+conjunction+primary+repeat+sequence-spec : {M : Type 1} → sta
     (λ c. search needs)
     (λ c. search needs)
     -- sequence: returns-2
-    (λ c. joins-stop dots (c .before .before .before .before .before .before .before .before .before .loop .inv .0) (c .before .before .before .before .before .before .before .before .byte-is .ensures .is ∙ c .before .before .before .before .before .before .before .if1 .taken) (c .before .before .before .before .before .before .before .before .byte-is .ensures .inside (c .before .before .before .before .before .before .before .if1 .taken)) (rw (c .enum-told2 .given .1) at (c .before .before .before .before .repeat2 .ensures)))
+    (λ c.
+    let turn = c .before .before .before .before .before .before .before .before .before in
+    let the-byte-is = c .before .before .before .before .before .before .before .before .byte-is in
+    let the-if1 = c .before .before .before .before .before .before .before .if1 in
+    joins-stop dots (turn .loop .inv .0) (the-byte-is .ensures .is ∙ the-if1 .taken) (the-byte-is .ensures .inside (the-if1 .taken)) (rw (c .enum-told2 .given .1) at (c .before .before .before .before .repeat2 .ensures)))
     (λ c κs. search needs)
     -- sequence: add-requires
-    (λ c κs. let r = rw (c .before .before .before .right .given .1) at (c .before .before .before .before .before .before .before .repeat2 .ensures) in let s = c .before .before .before .before .before .before .before .before .before .before .before .before .loop .inv .0 in rw (c .pair .ensures) (omega (arith, r .few, r .inside, s .few, c .before .before .before .before .before .before .before .before .before .before .before .before .before .before .before .before .before .before .before .before .before .before .pre), omega (arith, s .shallow, r .shallow, r .grown), omega (arith, c .before .before .before .before .before .before .before .before .before .before .before .before .before .before .before .before .before .before .before .before .before .before .pre, c .before .before .before .before .before .before .before .before .before .before .before .before .before .before .before .before .before .before .repeat .kept, c .before .before .before .before .before .before .before .before .before .before .before .before .loop .inv .1, c .before .before .before .before .before .before .before .repeat2 .kept)))
+    (λ c κs.
+    let start = c .before .before .before .before .before .before .before .before .before .before .before .before .before .before .before .before .before .before .before .before .before .before in
+    let the-repeat = c .before .before .before .before .before .before .before .before .before .before .before .before .before .before .before .before .before .before .repeat in
+    let turn = c .before .before .before .before .before .before .before .before .before .before .before .before in
+    let the-repeat2 = c .before .before .before .before .before .before .before .repeat2 in
+    let r = rw (c .before .before .before .right .given .1) at (the-repeat2 .ensures) in let s = turn .loop .inv .0 in rw (c .pair .ensures) (omega (arith, r .few, r .inside, s .few, start .pre), omega (arith, s .shallow, r .shallow, r .grown), omega (arith, start .pre, the-repeat .kept, turn .loop .inv .1, the-repeat2 .kept)))
     -- sequence: loop-less
-    (λ c. let r = rw (c .before .before .before .before .before .before .right .given .1) at (c .before .before .before .before .before .before .before .before .before .before .repeat2 .ensures) in rw (c .before .before .add .ensures .0) (rw (c .before .before .before .pair .ensures) (omega (arith, r .ahead, r .inside))))
+    (λ c.
+    let the-repeat2 = c .before .before .before .before .before .before .before .before .before .before .repeat2 in
+    let r = rw (c .before .before .before .before .before .before .right .given .1) at (the-repeat2 .ensures) in rw (c .before .before .add .ensures .0) (rw (c .before .before .before .pair .ensures) (omega (arith, r .ahead, r .inside))))
     -- sequence: loop-again
-    (λ c. let r = rw (c .before .before .before .before .before .before .right .given .1) at (c .before .before .before .before .before .before .before .before .before .before .repeat2 .ensures) in (joins-on-to dots (c .before .before .before .before .before .before .before .before .before .before .before .before .before .before .before .loop .inv .0) (c .before .before .before .before .before .before .before .before .before .before .before .before .before .before .byte-is .ensures .is ∙ c .before .before .before .before .before .before .before .before .before .before .before .before .before .if1 .taken) (c .before .before .before .before .before .before .before .before .before .before .before .before .before .before .byte-is .ensures .inside (c .before .before .before .before .before .before .before .before .before .before .before .before .before .if1 .taken)) r (c .before .before .before .pair .ensures) (c .before .before .add .ensures .0) (c .before .before .add .ensures .1), omega (arith, c .before .before .add .kept, c .before .before .before .before .before .before .before .before .before .before .repeat2 .kept, c .before .before .before .before .before .before .before .before .before .before .before .before .before .before .before .loop .inv .1)))
+    (λ c.
+    let turn = c .before .before .before .before .before .before .before .before .before .before .before .before .before .before .before in
+    let the-byte-is = c .before .before .before .before .before .before .before .before .before .before .before .before .before .before .byte-is in
+    let the-if1 = c .before .before .before .before .before .before .before .before .before .before .before .before .before .if1 in
+    let the-repeat2 = c .before .before .before .before .before .before .before .before .before .before .repeat2 in
+    let r = rw (c .before .before .before .before .before .before .right .given .1) at (the-repeat2 .ensures) in (joins-on-to dots (turn .loop .inv .0) (the-byte-is .ensures .is ∙ the-if1 .taken) (the-byte-is .ensures .inside (the-if1 .taken)) r (c .before .before .before .pair .ensures) (c .before .before .add .ensures .0) (c .before .before .add .ensures .1), omega (arith, c .before .before .add .kept, the-repeat2 .kept, turn .loop .inv .1)))
     (λ c. search needs)
     -- sequence: returns-3
     (λ c. joins-end dots (c .before .before .loop .inv .0) ((rw (c .before .before .before .before .first .given .1) at (c .before .before .before .before .before .before .before .before .repeat .ensures)) .kept) (c .before .byte-is .ensures .is ∙ c .if1 .left))

@@ -94,11 +94,13 @@ pub +eval-spec : {M : Type 1} → statement M
     let o = m .before .before .before .before .before .before in
     (λ e p. let s = shape-is _ (m .before .before .before .node-at .ensures) (m .before .before .shape-of .ensures) (m .op .given .1) p in one-over (o .pre .1 .0) (s .0) (m .op .given .0 .0) (s .1) (rw (c .enum-told2 .given .1) at (c .before .before .before .eval .ensures .0 (s .0) (s .3))), kept-within (omega arith) (omega (arith, planted-some (o .pre .1 .1 .planted))) (c .before .before .before .eval .ensures .1)))
     -- apply-requires
-    (λ c κs. let m = c .before .before .before .before .before .before .before .before in
+    (λ c κs.
+    let the-eval = c .before .before .before .before .before .eval in
+    let m = c .before .before .before .before .before .before .before .before in
     let o = m .before .before .before .before .before .before in
     let s = shape-is _ (m .before .before .before .node-at .ensures) (m .before .before .shape-of .ensures) (m .op .given .1) (o .pre .1 .1 .planted) in
-    let v = rw (c .before .before .count .given .1) at (c .before .before .before .before .before .eval .ensures .0 (s .0) (s .3)) in
-    (v .holds .few, omega (arith, o .pre .1 .3, planted-some (o .pre .1 .1 .planted), c .before .before .before .before .before .eval .ensures .1 .same-length), operand-sound (o .pre .1 .0) (s .0) v, read-ticks (o .pre .1 .0) .1, operand-rounds (o .pre .1 .0) (s .0) v (s .3) (omega (arith, o .pre .1 .2)), s .2))
+    let v = rw (c .before .before .count .given .1) at (the-eval .ensures .0 (s .0) (s .3)) in
+    (v .holds .few, omega (arith, o .pre .1 .3, planted-some (o .pre .1 .1 .planted), the-eval .ensures .1 .same-length), operand-sound (o .pre .1 .0) (s .0) v, read-ticks (o .pre .1 .0) .1, operand-rounds (o .pre .1 .0) (s .0) v (s .3) (omega (arith, o .pre .1 .2)), s .2))
     (λ c. search needs)
     -- eval-requires-2
     (λ c κs. let m = c .before .before in
@@ -125,25 +127,36 @@ pub +eval-spec : {M : Type 1} → statement M
     -- same-length-3
     (λ c. c .before .before .before .eval3 .ensures .1 .same-length ∙ c .before .before .before .before .before .before .before .before .before .eval2 .ensures .1 .same-length)
     -- returns-3
-    (λ c. let m = c .before .before .before .before .before .before .before .before .before .before .before .before in
+    (λ c.
+    let the-eval2 = c .before .before .before .before .before .before .before .before .before .eval2 in
+    let m = c .before .before .before .before .before .before .before .before .before .before .before .before in
     let o = m .before .before .before .before .before .before in
-    (λ e p. let s = shape-is _ (m .before .before .before .node-at .ensures) (m .before .before .shape-of .ensures) (m .op2 .given .1) p in two-over-right (o .pre .1 .0) (s .0) (s .1) (m .op2 .given .0 .0) (s .2) (rw (c .before .before .before .before .before .before .n .given .1) at (c .before .before .before .before .before .before .before .before .before .eval2 .ensures .0 (s .0) (s .3))) (rw (c .enum-told4 .given .1) at (c .before .before .before .eval3 .ensures .0 (s .1) (s .4))), kept-trans (kept-within (omega arith) (omega (arith, planted-some (o .pre .1 .1 .planted))) (c .before .before .before .before .before .before .before .before .before .eval2 .ensures .1)) (kept-within (omega arith) (omega (arith, planted-some (o .pre .1 .1 .planted))) (c .before .before .before .eval3 .ensures .1))))
+    (λ e p. let s = shape-is _ (m .before .before .before .node-at .ensures) (m .before .before .shape-of .ensures) (m .op2 .given .1) p in two-over-right (o .pre .1 .0) (s .0) (s .1) (m .op2 .given .0 .0) (s .2) (rw (c .before .before .before .before .before .before .n .given .1) at (the-eval2 .ensures .0 (s .0) (s .3))) (rw (c .enum-told4 .given .1) at (c .before .before .before .eval3 .ensures .0 (s .1) (s .4))), kept-trans (kept-within (omega arith) (omega (arith, planted-some (o .pre .1 .1 .planted))) (the-eval2 .ensures .1)) (kept-within (omega arith) (omega (arith, planted-some (o .pre .1 .1 .planted))) (c .before .before .before .eval3 .ensures .1))))
     -- add-combine
-    (λ c. let m = c .before .before .before .before .before .before .before .before .before .before .before .before .before .before in
+    (λ c.
+    let the-eval2 = c .before .before .before .before .before .before .before .before .before .before .before .eval2 in
+    let the-n = c .before .before .before .before .before .before .before .before .n in
+    let m = c .before .before .before .before .before .before .before .before .before .before .before .before .before .before in
     let o = m .before .before .before .before .before .before in
     let s = shape-is _ (m .before .before .before .node-at .ensures) (m .before .before .shape-of .ensures) (m .op2 .given .1) (o .pre .1 .1 .planted) in
-    omega (arith, operand-rounds (o .pre .1 .0) (s .0) (rw (c .before .before .before .before .before .before .before .before .n .given .1) at (c .before .before .before .before .before .before .before .before .before .before .before .eval2 .ensures .0 (s .0) (s .3))) (s .3) (omega (arith, o .pre .1 .2)), operand-rounds (o .pre .1 .0) (s .1) (rw (c .before .before .m .given .1) at (c .before .before .before .before .before .eval3 .ensures .0 (s .1) (s .4))) (s .4) (omega (arith, o .pre .1 .2))))
+    omega (arith, operand-rounds (o .pre .1 .0) (s .0) (rw (the-n .given .1) at (the-eval2 .ensures .0 (s .0) (s .3))) (s .3) (omega (arith, o .pre .1 .2)), operand-rounds (o .pre .1 .0) (s .1) (rw (c .before .before .m .given .1) at (c .before .before .before .before .before .eval3 .ensures .0 (s .1) (s .4))) (s .4) (omega (arith, o .pre .1 .2))))
     -- combine-requires
-    (λ c κs. let m = c .before .before .before .before .before .before .before .before .before .before .before .before .before .before in
+    (λ c κs.
+    let the-eval2 = c .before .before .before .before .before .before .before .before .before .before .before .eval2 in
+    let the-n = c .before .before .before .before .before .before .before .before .n in
+    let the-eval3 = c .before .before .before .before .before .eval3 in
+    let m = c .before .before .before .before .before .before .before .before .before .before .before .before .before .before in
     let o = m .before .before .before .before .before .before in
     let s = shape-is _ (m .before .before .before .node-at .ensures) (m .before .before .shape-of .ensures) (m .op2 .given .1) (o .pre .1 .1 .planted) in
-    let v = rw (c .before .before .before .before .before .before .before .before .n .given .1) at (c .before .before .before .before .before .before .before .before .before .before .before .eval2 .ensures .0 (s .0) (s .3)) in
-    let w = rw (c .before .before .m .given .1) at (c .before .before .before .before .before .eval3 .ensures .0 (s .1) (s .4)) in
-    (v .holds .few, w .holds .few, omega (arith, o .pre .1 .3, planted-some (o .pre .1 .1 .planted), c .before .before .before .before .before .before .before .before .before .before .before .eval2 .ensures .1 .same-length, c .before .before .before .before .before .eval3 .ensures .1 .same-length), subst Sound (sym (listAt-kept (o .args .base) (c .before .before .before .before .before .before .before .before .n .given .0 .0) (c .before .before .before .before .before .eval3 .ensures .1) (inl (omega (arith, v .holds .few))))) (operand-sound (o .pre .1 .0) (s .0) v), operand-sound (o .pre .1 .0) (s .1) w))
+    let v = rw (the-n .given .1) at (the-eval2 .ensures .0 (s .0) (s .3)) in
+    let w = rw (c .before .before .m .given .1) at (the-eval3 .ensures .0 (s .1) (s .4)) in
+    (v .holds .few, w .holds .few, omega (arith, o .pre .1 .3, planted-some (o .pre .1 .1 .planted), the-eval2 .ensures .1 .same-length, the-eval3 .ensures .1 .same-length), subst Sound (sym (listAt-kept (o .args .base) (the-n .given .0 .0) (the-eval3 .ensures .1) (inl (omega (arith, v .holds .few))))) (operand-sound (o .pre .1 .0) (s .0) v), operand-sound (o .pre .1 .0) (s .1) w))
     -- same-length-4
     (λ c. c .before .point .ensures .1 .same-length)
     -- returns-4
-    (λ c. (λ e p. point-done (c .before .before .before .before .before .before .before .before .before .pre .1 .0) (shape-is _ (c .before .before .before .before .before .before .node-at .ensures) (c .before .before .before .before .before .shape-of .ensures) (c .before .before .before .enum-told .given .1) p) _ _ (c .before .point .result) (c .before .point .ensures .0), kept-within (omega arith) (omega arith) (c .before .point .ensures .1)))
+    (λ c.
+    let start = c .before .before .before .before .before .before .before .before .before in
+    (λ e p. point-done (start .pre .1 .0) (shape-is _ (c .before .before .before .before .before .before .node-at .ensures) (c .before .before .before .before .before .shape-of .ensures) (c .before .before .before .enum-told .given .1) p) _ _ (c .before .point .result) (c .before .point .ensures .0), kept-within (omega arith) (omega arith) (c .before .point .ensures .1)))
     -- same-length-5
     (λ c. c .before .letter .ensures .1 .same-length)
     -- returns-5
@@ -152,15 +165,21 @@ pub +eval-spec : {M : Type 1} → statement M
     -- same-length-6
     (λ c. c .before .apply .ensures .1 .same-length ∙ c .before .before .before .before .before .before .before .eval .ensures .1 .same-length)
     -- returns-6
-    (λ c. let m = c .before .before .before .before .before .before .before .before .before .before in
+    (λ c.
+    let the-eval = c .before .before .before .before .before .before .before .eval in
+    let m = c .before .before .before .before .before .before .before .before .before .before in
     let o = m .before .before .before .before .before .before in
-    (λ e p. let s = shape-is _ (m .before .before .before .node-at .ensures) (m .before .before .shape-of .ensures) (m .op .given .1) p in one-done (o .pre .1 .0) (s .0) (m .op .given .0 .0) (s .1) _ (c .before .apply .result) (rw (c .before .before .before .before .count .given .1) at (c .before .before .before .before .before .before .before .eval .ensures .0 (s .0) (s .3))) (c .before .apply .ensures .0), kept-trans (kept-within (omega arith) (omega (arith, planted-some (o .pre .1 .1 .planted))) (c .before .before .before .before .before .before .before .eval .ensures .1)) (kept-within (omega arith) (omega (arith, planted-some (o .pre .1 .1 .planted))) (c .before .apply .ensures .1))))
+    (λ e p. let s = shape-is _ (m .before .before .before .node-at .ensures) (m .before .before .shape-of .ensures) (m .op .given .1) p in one-done (o .pre .1 .0) (s .0) (m .op .given .0 .0) (s .1) _ (c .before .apply .result) (rw (c .before .before .before .before .count .given .1) at (the-eval .ensures .0 (s .0) (s .3))) (c .before .apply .ensures .0), kept-trans (kept-within (omega arith) (omega (arith, planted-some (o .pre .1 .1 .planted))) (the-eval .ensures .1)) (kept-within (omega arith) (omega (arith, planted-some (o .pre .1 .1 .planted))) (c .before .apply .ensures .1))))
     -- same-length-7
     (λ c. c .before .combine .ensures .1 .same-length ∙ c .before .before .before .before .before .before .before .eval3 .ensures .1 .same-length ∙ c .before .before .before .before .before .before .before .before .before .before .before .before .before .eval2 .ensures .1 .same-length)
     -- returns-7
-    (λ c. let m = c .before .before .before .before .before .before .before .before .before .before .before .before .before .before .before .before in
+    (λ c.
+    let the-eval2 = c .before .before .before .before .before .before .before .before .before .before .before .before .before .eval2 in
+    let the-n = c .before .before .before .before .before .before .before .before .before .before .n in
+    let the-eval3 = c .before .before .before .before .before .before .before .eval3 in
+    let m = c .before .before .before .before .before .before .before .before .before .before .before .before .before .before .before .before in
     let o = m .before .before .before .before .before .before in (
       λ e p. let s = shape-is _ (m .before .before .before .node-at .ensures) (m .before .before .shape-of .ensures) (m .op2 .given .1) p in
-          let v = rw (c .before .before .before .before .before .before .before .before .before .before .n .given .1) at (c .before .before .before .before .before .before .before .before .before .before .before .before .before .eval2 .ensures .0 (s .0) (s .3)) in two-done (o .pre .1 .0) (s .0) (s .1) (m .op2 .given .0 .0) (s .2) _ (c .before .combine .result) v (listAt-kept (o .args .base) (c .before .before .before .before .before .before .before .before .before .before .n .given .0 .0) (c .before .before .before .before .before .before .before .eval3 .ensures .1) (inl (omega (arith, v .holds .few)))) (rw (c .before .before .before .before .m .given .1) at (c .before .before .before .before .before .before .before .eval3 .ensures .0 (s .1) (s .4))) (c .before .combine .ensures .0),
-      kept-trans (kept-within (omega arith) (omega (arith, planted-some (o .pre .1 .1 .planted))) (c .before .before .before .before .before .before .before .before .before .before .before .before .before .eval2 .ensures .1)) (kept-trans (kept-within (omega arith) (omega (arith, planted-some (o .pre .1 .1 .planted))) (c .before .before .before .before .before .before .before .eval3 .ensures .1)) (kept-within (omega arith) (omega (arith, planted-some (o .pre .1 .1 .planted))) (c .before .combine .ensures .1))),
+          let v = rw (the-n .given .1) at (the-eval2 .ensures .0 (s .0) (s .3)) in two-done (o .pre .1 .0) (s .0) (s .1) (m .op2 .given .0 .0) (s .2) _ (c .before .combine .result) v (listAt-kept (o .args .base) (the-n .given .0 .0) (the-eval3 .ensures .1) (inl (omega (arith, v .holds .few)))) (rw (c .before .before .before .before .m .given .1) at (the-eval3 .ensures .0 (s .1) (s .4))) (c .before .combine .ensures .0),
+      kept-trans (kept-within (omega arith) (omega (arith, planted-some (o .pre .1 .1 .planted))) (the-eval2 .ensures .1)) (kept-trans (kept-within (omega arith) (omega (arith, planted-some (o .pre .1 .1 .planted))) (the-eval3 .ensures .1)) (kept-within (omega arith) (omega (arith, planted-some (o .pre .1 .1 .planted))) (c .before .combine .ensures .1))),
     ))

@@ -4,7 +4,9 @@ use Rattle.finder.proofs.apply.Statement.{statement}
 use Rattle.finder.proofs.apply.Tie as tie
 
 banded-requires : tie.Need-banded-requires
-banded-requires c κs = (c .before .before .before .before .pre .0, c .before .before .before .before .pre .1, c .before .before .before .before .pre .2, c .before .before .before .before .pre .3, rw (c .before .before .op .given .1) at (c .before .before .before .before .pre .5))
+banded-requires c κs =
+    let start = c .before .before .before .before in
+    (start .pre .0, start .pre .1, start .pre .2, start .pre .3, rw (c .before .before .op .given .1) at (start .pre .5))
 
 returns : tie.Need-returns
 returns c = (rw (c .before .before .before .enum-told .given .1) (c .before .star .ensures .0), c .before .star .ensures .1)

@@ -34,22 +34,31 @@ run-requires c κs = let f = (rw (c .before .before .run .given .1) at (c .befor
     (omega (arith, f .some, f .upper), omega (arith, f .upper))
 
 put-requires : tie.Need-put-requires Inv-loop μ-loop
-put-requires c κs = let f = (rw (c .before .before .before .run .given .1) at (c .before .before .before .before .before .next-run .ensures)) .0 in
-    (c .before .before .before .before .before .before .loop .inv .few, omega (arith, c .before .before .before .before .before .before .loop .inv .frame .same-length), rw (c .run2 .ensures) (run-ranged f (read-ticks (c .before .before .before .before .before .before .before .before .pre .0) .1)))
+put-requires c κs =
+    let turn = c .before .before .before .before .before .before in
+    let f = (rw (c .before .before .before .run .given .1) at (c .before .before .before .before .before .next-run .ensures)) .0 in
+    (turn .loop .inv .few, omega (arith, turn .loop .inv .frame .same-length), rw (c .run2 .ensures) (run-ranged f (read-ticks (c .before .before .before .before .before .before .before .before .pre .0) .1)))
 
 same-length-2 : tie.Need-same-length-2 Inv-loop μ-loop
 same-length-2 c = c .before .before .before .put .ensures .1 .same-length ∙ c .before .before .before .before .before .before .before .before .before .before .loop .inv .frame .same-length
 
 returns-2 : tie.Need-returns-2 Inv-loop μ-loop
-returns-2 c = let n = rw (c .before .before .before .before .before .before .before .run .given .1) at (c .before .before .before .before .before .before .before .before .before .next-run .ensures) in
-    (spelt-over _ _ _ _ (c .before .before .before .before .before .before .before .before .before .before .loop .inv) _ _ n (rw (c .before .before .before .before .run2 .ensures, c .enum-told2 .given .1) at (c .before .before .before .put .ensures .0)), kept-trans (c .before .before .before .before .before .before .before .before .before .before .loop .inv .frame) (c .before .before .before .put .ensures .1))
+returns-2 c =
+    let turn = c .before .before .before .before .before .before .before .before .before .before in
+    let n = rw (c .before .before .before .before .before .before .before .run .given .1) at (c .before .before .before .before .before .before .before .before .before .next-run .ensures) in
+    (spelt-over _ _ _ _ (turn .loop .inv) _ _ n (rw (c .before .before .before .before .run2 .ensures, c .enum-told2 .given .1) at (c .before .before .before .put .ensures .0)), kept-trans (turn .loop .inv .frame) (c .before .before .before .put .ensures .1))
 
 loop-less : tie.Need-loop-less Inv-loop μ-loop
 loop-less c = let n = rw (c .before .before .before .before .before .before .before .before .run .given .1) at (c .before .before .before .before .before .before .before .before .before .before .next-run .ensures) in omega (arith, n .0 .ahead, n .0 .some, n .0 .upper, n .1)
 
 loop-again : tie.Need-loop-again Inv-loop μ-loop
-loop-again c = let n = rw (c .before .before .before .before .before .before .before .before .run .given .1) at (c .before .before .before .before .before .before .before .before .before .before .next-run .ensures) in
-    spelt-more _ _ _ _ (c .before .before .before .before .before .before .before .before .before .before .before .loop .inv) _ _ n (rw (c .before .before .before .before .before .run2 .ensures, c .before .n .given .1) at (c .before .before .before .before .put .ensures .0)) (c .before .before .before .before .put .ensures .1)
+loop-again c =
+    let turn = c .before .before .before .before .before .before .before .before .before .before .before in
+    let the-next-run = c .before .before .before .before .before .before .before .before .before .before .next-run in
+    let the-run = c .before .before .before .before .before .before .before .before .run in
+    let the-put = c .before .before .before .before .put in
+    let n = rw (the-run .given .1) at (the-next-run .ensures) in
+    spelt-more _ _ _ _ (turn .loop .inv) _ _ n (rw (c .before .before .before .before .before .run2 .ensures, c .before .n .given .1) at (the-put .ensures .0)) (the-put .ensures .1)
 
 pub letter-spec : {M : Type 1} → statement M
 letter-spec =

@@ -15,7 +15,9 @@ insert-requires : tie.Need-insert-requires
 insert-requires c κs = (record { few = omega arith; room = c .before .before .pre .1 }, rw (c .diagonal .ensures) (ranged-more (c .before .before .pre .0) (ranged (proper-diagonal 0 _ (omega arith)))))
 
 returns : tie.Need-returns
-returns c = absurd (let e = first-placed (c .before .before .before .diagonal .result) (c .before .before .before .before .before .args .work .now) (c .before .before .insert .last .0) (c .before .before .before .before .before .args .base) (c .before .before .insert .result) (c .before .before .insert .ensures) in miss (0 ∷ 2 ∷ []) 1 tt (rw (e .1) at (c .match .keys2)))
+returns c =
+    let start = c .before .before .before .before .before in
+    absurd (let e = first-placed (c .before .before .before .diagonal .result) (start .args .work .now) (c .before .before .insert .last .0) (start .args .base) (c .before .before .insert .result) (c .before .before .insert .ensures) in miss (0 ∷ 2 ∷ []) 1 tt (rw (e .1) at (c .match .keys2)))
 
 returns-2 : tie.Need-returns-2
 unfolding listAt

@@ -6,16 +6,22 @@ use Rattle.finder.proofs.put.Statement.{statement}
 use Rattle.finder.proofs.put.Tie as tie
 
 returns : tie.Need-returns
-returns c = let a = rw (c .enum-told .given .1) at (c .before .before .before .insert .ensures) in
-    (put-built (c .before .before .before .before .before .args .z) _ _ _ _ (c .before .before .before .before .before .pre .0) Away a, put-kept (c .before .before .before .before .before .args .z) _ _ _ _ (c .before .before .before .before .before .pre .0) Away a)
+returns c =
+    let start = c .before .before .before .before .before in
+    let a = rw (c .enum-told .given .1) at (c .before .before .before .insert .ensures) in
+    (put-built (start .args .z) _ _ _ _ (start .pre .0) Away a, put-kept (start .args .z) _ _ _ _ (start .pre .0) Away a)
 
 returns-2 : tie.Need-returns-2
-returns-2 c = let a = rw (c .before .n .given .1) at (c .before .before .before .before .insert .ensures) in
-    (put-built (c .before .before .before .before .before .before .args .z) _ _ _ _ (c .before .before .before .before .before .before .pre .0) (Placed (c .before .n .given .0 .0)) a, put-kept (c .before .before .before .before .before .before .args .z) _ _ _ _ (c .before .before .before .before .before .before .pre .0) (Placed (c .before .n .given .0 .0)) a)
+returns-2 c =
+    let start = c .before .before .before .before .before .before in
+    let a = rw (c .before .n .given .1) at (c .before .before .before .before .insert .ensures) in
+    (put-built (start .args .z) _ _ _ _ (start .pre .0) (Placed (c .before .n .given .0 .0)) a, put-kept (start .args .z) _ _ _ _ (start .pre .0) (Placed (c .before .n .given .0 .0)) a)
 
 returns-3 : tie.Need-returns-3
-returns-3 c = let a = rw (c .enum-told2 .given .1) at (c .before .before .before .insert .ensures) in
-    (put-built (c .before .before .before .before .before .args .z) _ _ _ _ (c .before .before .before .before .before .pre .0) Full a, put-kept (c .before .before .before .before .before .args .z) _ _ _ _ (c .before .before .before .before .before .pre .0) Full a)
+returns-3 c =
+    let start = c .before .before .before .before .before in
+    let a = rw (c .enum-told2 .given .1) at (c .before .before .before .insert .ensures) in
+    (put-built (start .args .z) _ _ _ _ (start .pre .0) Full a, put-kept (start .args .z) _ _ _ _ (start .pre .0) Full a)
 
 pub put-spec : {M : Type 1} → statement M
 put-spec =

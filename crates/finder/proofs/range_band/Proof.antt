@@ -14,12 +14,13 @@ at-least-requires : tie.Need-at-least-requires
 at-least-requires c κs = lower-small (c .before .before .args .range) (c .before .before .pre .1)
 
 band-requires : tie.Need-band-requires
-band-requires c κs = (
-  omega arith,
-  c .before .before .before .pre .0,
-  rw (c .before .at-most .ensures) (upper-small (c .before .before .before .args .range) (c .before .before .upper-end .ensures) (c .before .before .before .pre .0) (c .before .before .before .pre .1)),
-  rw (c .at-least .ensures) (small-negated _ (lower-small (c .before .before .before .args .range) (c .before .before .before .pre .1))),
-)
+band-requires c κs =
+    let start = c .before .before .before in (
+      omega arith,
+      start .pre .0,
+      rw (c .before .at-most .ensures) (upper-small (start .args .range) (c .before .before .upper-end .ensures) (start .pre .0) (start .pre .1)),
+      rw (c .at-least .ensures) (small-negated _ (lower-small (start .args .range) (start .pre .1))),
+    )
 
 returns : tie.Need-returns
 returns c = c .band .ensures ∙ (λ i. band 0 (c .before .before .before .before .args .ticks) ((c .before .before .at-most .ensures ∙ c .before .before .before .upper-end .ensures) i) (c .before .at-least .ensures i))

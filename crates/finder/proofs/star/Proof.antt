@@ -27,8 +27,10 @@ bring-requires c κs = let l = rw (c .before .before .count .given .1) at (c .be
     (l .holds .few, omega (arith, c .before .before .before .before .before .star .ensures .1 .same-length), omega (arith, c .before .before .before .before .before .star .ensures .1 .same-length), inr (inr (omega arith)))
 
 add-t16 : tie.Need-add-t16
-add-t16 c = let l = rw (c .before .before .before .before .count .given .1) at (c .before .before .before .before .before .before .before .star .ensures .0) in
-    omega (arith, made-few (c .before .before .before .before .before .before .before .before .before .pre .2) (omega (arith, listAt-length (c .before .before .before .before .before .before .before .before .before .args .work .now) (c .before .before .before .before .before .before .before .before .before .args .base) (c .before .before .before .before .before .before .before .before .before .args .n))) l, c .before .before .before .before .before .before .before .before .before .pre .4)
+add-t16 c =
+    let start = c .before .before .before .before .before .before .before .before .before in
+    let l = rw (c .before .before .before .before .count .given .1) at (c .before .before .before .before .before .before .before .star .ensures .0) in
+    omega (arith, made-few (start .pre .2) (omega (arith, listAt-length (start .args .work .now) (start .args .base) (start .args .n))) l, start .pre .4)
 
 returns-2 : tie.Need-returns-2
 returns-2 c = (

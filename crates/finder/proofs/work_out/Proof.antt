@@ -29,8 +29,12 @@ returns-3 c = λ e p. let s = rw (c .before .before .before .before .before .cou
     }
 
 deliver-requires : tie.Need-deliver-requires
-deliver-requires c κs = let r = c .before .before .before .before .before .before .before .before .before .before .before .before .pre .1 in let s = rw (c .before .before .before .before .count .given .1) at (c .before .before .before .before .before .before .before .eval .ensures .0 (r .expression) (r .planted)) in
-    (omega (arith, s .holds .few, c .before .before .before .before .before .before .before .eval .ensures .1 .same-length, c .before .before .before .before .before .before .before .before .before .if1 .left), omega (arith, c .before .before .if2 .left))
+deliver-requires c κs =
+    let start = c .before .before .before .before .before .before .before .before .before .before .before .before in
+    let the-if1 = c .before .before .before .before .before .before .before .before .before .if1 in
+    let the-eval = c .before .before .before .before .before .before .before .eval in
+    let r = start .pre .1 in let s = rw (c .before .before .before .before .count .given .1) at (the-eval .ensures .0 (r .expression) (r .planted)) in
+    (omega (arith, s .holds .few, the-eval .ensures .1 .same-length, the-if1 .left), omega (arith, c .before .before .if2 .left))
 
 returns-4 : tie.Need-returns-4
 returns-4 c = λ e p. let s = rw (c .before .before .before .before .before .before .before .before .before .count .given .1) at (c .before .before .before .before .before .before .before .before .before .before .before .before .eval .ensures .0 e p) in

@@ -33,19 +33,29 @@ same-length : tie.Need-same-length Inv-loop μ-loop
 same-length c = c .before .before .before .one-round .ensures .1 .same-length ∙ c .before .before .before .before .before .loop .inv .frame .same-length
 
 returns : tie.Need-returns Inv-loop μ-loop
-returns c = (turn-end (c .before .before .before .before .before .before .pre .0) (c .before .before .before .before .before .before .pre .3) (c .before .before .before .before .before .before .pre .4) (c .before .before .before .before .before .before .pre .5) (c .before .before .before .before .before .loop .inv) (rw (c .enum-told .given .1) at (c .before .before .before .one-round .ensures .0)) (c .before .before .before .one-round .ensures .1), turn-kept (c .before .before .before .before .before .before .pre .0) (c .before .before .before .before .before .before .pre .3) (c .before .before .before .before .before .before .pre .4) (c .before .before .before .before .before .before .pre .5) (c .before .before .before .before .before .loop .inv) (c .before .before .before .one-round .ensures .1))
+returns c =
+    let start = c .before .before .before .before .before .before in
+    let turn = c .before .before .before .before .before in
+    (turn-end (start .pre .0) (start .pre .3) (start .pre .4) (start .pre .5) (turn .loop .inv) (rw (c .enum-told .given .1) at (c .before .before .before .one-round .ensures .0)) (c .before .before .before .one-round .ensures .1), turn-kept (start .pre .0) (start .pre .3) (start .pre .4) (start .pre .5) (turn .loop .inv) (c .before .before .before .one-round .ensures .1))
 
 loop-less : tie.Need-loop-less Inv-loop μ-loop
-loop-less c = omega (arith, turn-bound (c .before .before .before .before .before .before .before .pre .0) (c .before .before .before .before .before .before .before .pre .3) (c .before .before .before .before .before .before .before .pre .4) (c .before .before .before .before .before .before .before .pre .5) (c .before .before .before .before .before .before .loop .inv))
+loop-less c =
+    let start = c .before .before .before .before .before .before .before in
+    omega (arith, turn-bound (start .pre .0) (start .pre .3) (start .pre .4) (start .pre .5) (c .before .before .before .before .before .before .loop .inv))
 
 loop-again : tie.Need-loop-again Inv-loop μ-loop
-loop-again c = turn-next (c .before .before .before .before .before .before .before .pre .0) (c .before .before .before .before .before .before .before .pre .3) (c .before .before .before .before .before .before .before .pre .4) (c .before .before .before .before .before .before .before .pre .5) (c .before .before .before .before .before .before .loop .inv) (rw (c .before .k .given .1) at (c .before .before .before .before .one-round .ensures .0)) (c .before .before .before .before .one-round .ensures .1)
+loop-again c =
+    let start = c .before .before .before .before .before .before .before in
+    turn-next (start .pre .0) (start .pre .3) (start .pre .4) (start .pre .5) (c .before .before .before .before .before .before .loop .inv) (rw (c .before .k .given .1) at (c .before .before .before .before .one-round .ensures .0)) (c .before .before .before .before .one-round .ensures .1)
 
 same-length-2 : tie.Need-same-length-2 Inv-loop μ-loop
 same-length-2 c = c .before .before .before .one-round .ensures .1 .same-length ∙ c .before .before .before .before .before .loop .inv .frame .same-length
 
 returns-2 : tie.Need-returns-2 Inv-loop μ-loop
-returns-2 c = (turn-over (c .before .before .before .before .before .before .pre .0) (c .before .before .before .before .before .before .pre .3) (c .before .before .before .before .before .before .pre .4) (c .before .before .before .before .before .before .pre .5) (c .before .before .before .before .before .loop .inv) (rw (c .enum-told2 .given .1) at (c .before .before .before .one-round .ensures .0)), turn-kept (c .before .before .before .before .before .before .pre .0) (c .before .before .before .before .before .before .pre .3) (c .before .before .before .before .before .before .pre .4) (c .before .before .before .before .before .before .pre .5) (c .before .before .before .before .before .loop .inv) (c .before .before .before .one-round .ensures .1))
+returns-2 c =
+    let start = c .before .before .before .before .before .before in
+    let turn = c .before .before .before .before .before in
+    (turn-over (start .pre .0) (start .pre .3) (start .pre .4) (start .pre .5) (turn .loop .inv) (rw (c .enum-told2 .given .1) at (c .before .before .before .one-round .ensures .0)), turn-kept (start .pre .0) (start .pre .3) (start .pre .4) (start .pre .5) (turn .loop .inv) (c .before .before .before .one-round .ensures .1))
 
 pub all-rounds-spec : {M : Type 1} → statement M
 all-rounds-spec =

@@ -20,23 +20,25 @@ write-zone-requires c κs = (omega arith, ranged (rw (c .before .before .limits 
 
 all-pairs-requires : tie.Need-all-pairs-requires
 all-pairs-requires c κs =
+    let start = c .before .before .before .before .before .before .before in
     let z = c .before .before .before .before .before .limits .given .0 .0 in
-    let f = band-kept z _ _ (c .before .before .before .before .before .before .before .pre .1) (c .before .before .write-zone .ensures) in
-    let alone = band-alone z _ _ (c .before .before .before .before .before .before .before .pre .1) (c .before .before .write-zone .ensures) in (
-      still-source _ _ (c .before .before .before .before .before .before .before .pre .0) f (c .before .before .before .before .before .before .before .pre .5),
-      record { few = omega arith; room = omega (arith, f .same-length, c .before .before .before .before .before .before .before .pre .1); sound = subst Sound (sym alone) (sound-band (rw (c .before .before .before .before .before .limits .given .1) at (c .before .before .before .before .before .before .before .pre .6))) },
-      omega (arith, f .same-length, c .before .before .before .before .before .before .before .pre .2),
-      c .before .before .before .before .before .before .before .pre .3,
-      c .before .before .before .before .before .before .before .pre .4,
+    let f = band-kept z _ _ (start .pre .1) (c .before .before .write-zone .ensures) in
+    let alone = band-alone z _ _ (start .pre .1) (c .before .before .write-zone .ensures) in (
+      still-source _ _ (start .pre .0) f (start .pre .5),
+      record { few = omega arith; room = omega (arith, f .same-length, start .pre .1); sound = subst Sound (sym alone) (sound-band (rw (c .before .before .before .before .before .limits .given .1) at (start .pre .6))) },
+      omega (arith, f .same-length, start .pre .2),
+      start .pre .3,
+      start .pre .4,
     )
 
 returns-2 : tie.Need-returns-2
 unfolding banded
 returns-2 c =
+    let start = c .before .before .before .before .before .before .before .before .before in
     let z = c .before .before .before .before .before .before .before .limits .given .0 .0 in
-    let pre = c .before .before .before .before .before .before .before .before .before .pre in
+    let pre = start .pre in
     let f = band-kept z _ _ (pre .1) (c .before .before .before .before .write-zone .ensures) in
-    let same = list-there (c .before .before .before .before .before .before .before .before .before .args .source) (c .before .before .before .before .before .before .before .before .before .args .n) f (pre .5) (pre .0 .few) in
+    let same = list-there (start .args .source) (start .args .n) f (pre .5) (pre .0 .few) in
     (rw (c .before .before .before .before .before .before .before .limits .given .1) (rw (same, band-alone z _ _ (pre .1) (c .before .before .before .before .write-zone .ensures)) at (c .before .all-pairs .ensures .0)), kept-both f (c .before .all-pairs .ensures .1))
 
 pub band-spec : {M : Type 1} → statement M

@@ -38,11 +38,13 @@ loop-less c = omega arith
 
 loop-again : tie.Need-loop-again Inv-loop μ-loop
 loop-again c =
-    let k = c .before .before .before .before .loop .k in
-    let sofar = c .before .before .before .before .loop .inv .1 in
-    let next = copied-zone (c .before .before .before .before .loop .words) (c .before .before .before .before .before .args .from + k * 6) (c .before .before .before .before .before .args .to + k * 6) (omega (arith, sofar .kept .same-length)) in
+    let start = c .before .before .before .before .before in
+    let turn = c .before .before .before .before in
+    let k = turn .loop .k in
+    let sofar = turn .loop .inv .1 in
+    let next = copied-zone (turn .loop .words) (start .args .from + k * 6) (start .args .to + k * 6) (omega (arith, sofar .kept .same-length)) in
     let e : k * 6 + 6 ≡ (k + 1) * 6 = omega arith in
-    (omega arith, rw (c .before .move-zone .ensures, ← e) (copied-on sofar next (c .before .before .before .before .before .pre .2) (omega arith)))
+    (omega arith, rw (c .before .move-zone .ensures, ← e) (copied-on sofar next (start .pre .2) (omega arith)))
 
 same-length : tie.Need-same-length Inv-loop μ-loop
 same-length c = c .before .loop .inv .1 .kept .same-length

@@ -24,24 +24,28 @@ loop-holds : tie.Need-loop-holds Inv-loop μ-loop
 loop-holds c = (omega arith, going-same (ap (λ (A : List Zone). pairs (c .args .op) A (listAt (c .args .words .now) (c .args .right) (c .args .m))) (sym (all-left _ _ _))) (going-start _ _ _ _ _ (c .pre .2 .few)))
 
 each-right-requires : tie.Need-each-right-requires Inv-loop μ-loop
-each-right-requires c κs = (
-  operand _ _ _ (still-source _ _ (c .before .before .before .pre .0) (c .before .before .loop .inv .1 .frame) (c .before .before .before .pre .3)) (c .before .before .before .pre .3) (c .before .loop-test .taken),
-  still-source _ _ (c .before .before .before .pre .1) (c .before .before .loop .inv .1 .frame) (c .before .before .before .pre .4),
-  still-slot (c .before .before .before .pre .2) (c .before .before .loop .inv .1 .frame) (c .before .before .loop .inv .1 .few),
-  c .before .before .before .pre .4,
-)
+each-right-requires c κs =
+    let start = c .before .before .before in (
+      operand _ _ _ (still-source _ _ (start .pre .0) (c .before .before .loop .inv .1 .frame) (start .pre .3)) (start .pre .3) (c .before .loop-test .taken),
+      still-source _ _ (start .pre .1) (c .before .before .loop .inv .1 .frame) (start .pre .4),
+      still-slot (start .pre .2) (c .before .before .loop .inv .1 .frame) (c .before .before .loop .inv .1 .few),
+      start .pre .4,
+    )
 
 same-length : tie.Need-same-length Inv-loop μ-loop
 same-length c = c .before .before .before .each-right .ensures .1 .same-length ∙ c .before .before .before .before .before .before .loop .inv .1 .frame .same-length
 
 returns : tie.Need-returns Inv-loop μ-loop
 returns c =
-    let g = going-pair _ _ _ (c .before .before .before .before .before .loop-test .taken) (c .before .before .before .before .before .before .before .pre .0 .few) (c .before .before .before .before .before .before .before .pre .3) (c .before .before .before .before .before .before .before .args .op) _ _ (c .before .before .before .before .before .before .before .pre .4) (c .before .before .before .before .before .before .before .pre .1 .few) (c .before .before .before .before .before .before .loop .inv .1) in
-    (going-over _ _ g (rw (c .enum-told .given .1) at (c .before .before .before .each-right .ensures .0)), kept-trans (c .before .before .before .before .before .before .loop .inv .1 .frame) (c .before .before .before .each-right .ensures .1))
+    let start = c .before .before .before .before .before .before .before in
+    let turn = c .before .before .before .before .before .before in
+    let g = going-pair _ _ _ (c .before .before .before .before .before .loop-test .taken) (start .pre .0 .few) (start .pre .3) (start .args .op) _ _ (start .pre .4) (start .pre .1 .few) (turn .loop .inv .1) in
+    (going-over _ _ g (rw (c .enum-told .given .1) at (c .before .before .before .each-right .ensures .0)), kept-trans (turn .loop .inv .1 .frame) (c .before .before .before .each-right .ensures .1))
 
 loop-again : tie.Need-loop-again Inv-loop μ-loop
 loop-again c =
-    let g = going-pair _ _ _ (c .before .before .before .before .before .before .loop-test .taken) (c .before .before .before .before .before .before .before .before .pre .0 .few) (c .before .before .before .before .before .before .before .before .pre .3) (c .before .before .before .before .before .before .before .before .args .op) _ _ (c .before .before .before .before .before .before .before .before .pre .4) (c .before .before .before .before .before .before .before .before .pre .1 .few) (c .before .before .before .before .before .before .before .loop .inv .1) in
+    let start = c .before .before .before .before .before .before .before .before in
+    let g = going-pair _ _ _ (c .before .before .before .before .before .before .loop-test .taken) (start .pre .0 .few) (start .pre .3) (start .args .op) _ _ (start .pre .4) (start .pre .1 .few) (c .before .before .before .before .before .before .before .loop .inv .1) in
     (omega arith, going-on _ _ g (rw (c .before .next .given .1) at (c .before .before .before .before .each-right .ensures .0)) (c .before .before .before .before .each-right .ensures .1))
 
 same-length-2 : tie.Need-same-length-2 Inv-loop μ-loop

@@ -35,7 +35,10 @@ same-length : tie.Need-same-length Inv-loop μ-loop
 same-length c = c .before .before .before .grow-from .ensures .1 .same-length ∙ c .before .before .before .before .before .before .loop .inv .1 .frame .same-length
 
 returns : tie.Need-returns Inv-loop μ-loop
-returns c = (going-over _ _ (going-next _ _ _ (c .before .before .before .before .before .loop-test .taken) (c .before .before .before .before .before .before .before .pre .0 .few) (c .before .before .before .before .before .before .before .pre .2) refl zone (c .before .before .before .before .before .before .loop .inv .1) refl) (rw (c .enum-told .given .1) at (c .before .before .before .grow-from .ensures .0)), kept-trans (c .before .before .before .before .before .before .loop .inv .1 .frame) (c .before .before .before .grow-from .ensures .1))
+returns c =
+    let start = c .before .before .before .before .before .before .before in
+    let turn = c .before .before .before .before .before .before in
+    (going-over _ _ (going-next _ _ _ (c .before .before .before .before .before .loop-test .taken) (start .pre .0 .few) (start .pre .2) refl zone (turn .loop .inv .1) refl) (rw (c .enum-told .given .1) at (c .before .before .before .grow-from .ensures .0)), kept-trans (turn .loop .inv .1 .frame) (c .before .before .before .grow-from .ensures .1))
 
 add-i : tie.Need-add-i Inv-loop μ-loop
 add-i c = omega arith
@@ -44,7 +47,10 @@ loop-less : tie.Need-loop-less Inv-loop μ-loop
 loop-less c = omega arith
 
 loop-again : tie.Need-loop-again Inv-loop μ-loop
-loop-again c = (omega arith, going-on _ _ (going-next _ _ _ (c .before .before .before .before .before .before .loop-test .taken) (c .before .before .before .before .before .before .before .before .pre .0 .few) (c .before .before .before .before .before .before .before .before .pre .2) refl zone (c .before .before .before .before .before .before .before .loop .inv .1) refl) (rw (c .before .next .given .1) at (c .before .before .before .before .grow-from .ensures .0)) (c .before .before .before .before .grow-from .ensures .1))
+loop-again c =
+    let the-grow-from = c .before .before .before .before .grow-from in
+    let start = c .before .before .before .before .before .before .before .before in
+    (omega arith, going-on _ _ (going-next _ _ _ (c .before .before .before .before .before .before .loop-test .taken) (start .pre .0 .few) (start .pre .2) refl zone (c .before .before .before .before .before .before .before .loop .inv .1) refl) (rw (c .before .next .given .1) at (the-grow-from .ensures .0)) (the-grow-from .ensures .1))
 
 same-length-2 : tie.Need-same-length-2 Inv-loop μ-loop
 same-length-2 c = c .before .loop .inv .1 .frame .same-length

@@ -7,24 +7,27 @@ use Rattle.list.proofs.grow.Tie as tie
 
 returns : tie.Need-returns
 returns c =
-    let z = zoneAt (c .before .before .before .before .before .args .w .now) 0 in
-    let few = c .before .before .before .before .before .pre .few in
+    let start = c .before .before .before .before .before in
+    let z = zoneAt (start .args .w .now) 0 in
+    let few = start .pre .few in
     let a = rw (c .enum-told .given .1) at (c .before .before .before .insert-words .ensures) in
-    (grown z _ _ _ _ (c .before .before .before .before .before .args .changed) few Away a, grown-kept z _ _ _ _ (c .before .before .before .before .before .args .changed) few Away a)
+    (grown z _ _ _ _ (start .args .changed) few Away a, grown-kept z _ _ _ _ (start .args .changed) few Away a)
 
 returns-2 : tie.Need-returns-2
 returns-2 c =
-    let z = zoneAt (c .before .before .before .before .before .before .args .w .now) 0 in
-    let few = c .before .before .before .before .before .before .pre .few in
+    let start = c .before .before .before .before .before .before in
+    let z = zoneAt (start .args .w .now) 0 in
+    let few = start .pre .few in
     let a = rw (c .before .n .given .1) at (c .before .before .before .before .insert-words .ensures) in
-    (grown z _ _ _ _ (c .before .before .before .before .before .before .args .changed) few (Placed (c .before .n .given .0 .0)) a, grown-kept z _ _ _ _ (c .before .before .before .before .before .before .args .changed) few (Placed (c .before .n .given .0 .0)) a)
+    (grown z _ _ _ _ (start .args .changed) few (Placed (c .before .n .given .0 .0)) a, grown-kept z _ _ _ _ (start .args .changed) few (Placed (c .before .n .given .0 .0)) a)
 
 returns-3 : tie.Need-returns-3
 returns-3 c =
-    let z = zoneAt (c .before .before .before .before .before .args .w .now) 0 in
-    let few = c .before .before .before .before .before .pre .few in
+    let start = c .before .before .before .before .before in
+    let z = zoneAt (start .args .w .now) 0 in
+    let few = start .pre .few in
     let a = rw (c .enum-told2 .given .1) at (c .before .before .before .insert-words .ensures) in
-    (grown z _ _ _ _ (c .before .before .before .before .before .args .changed) few Full a, grown-kept z _ _ _ _ (c .before .before .before .before .before .args .changed) few Full a)
+    (grown z _ _ _ _ (start .args .changed) few Full a, grown-kept z _ _ _ _ (start .args .changed) few Full a)
 
 pub grow-spec : {M : Type 1} → statement M
 grow-spec =

@@ -6,7 +6,9 @@ use Rattle.list.proofs.grow_from.Statement.{statement}
 use Rattle.list.proofs.grow_from.Tie as tie
 
 returns : tie.Need-returns
-returns c = rw (held (zoneAt (c .before .before .before .before .before .before .before .before .args .words .now) (c .before .before .before .before .before .before .before .before .args .at)) _ (c .before .before .before .before .before .copy-zone .ensures) (omega arith)) at (c .before .grow .ensures)
+returns c =
+    let start = c .before .before .before .before .before .before .before .before in
+    rw (held (zoneAt (start .args .words .now) (start .args .at)) _ (c .before .before .before .before .before .copy-zone .ensures) (omega arith)) at (c .before .grow .ensures)
 
 pub grow-from-spec : {M : Type 1} → statement M
 grow-from-spec =

@@ -40,12 +40,14 @@ loop-less c = omega arith
 
 loop-again : tie.Need-loop-again Inv-loop μ-loop
 loop-again c =
-    let z = zoneAt (c .before .before .before .before .before .args .w .now) 0 in
-    let ws = c .before .before .before .before .before .args .words .now in
-    let base = c .before .before .before .before .before .args .base in
-    let i = c .before .before .before .before .loop .i in
-    let seen = c .before .before .before .before .loop .seen in
-    let sofar = c .before .before .before .before .loop .inv .1 in (
+    let start = c .before .before .before .before .before in
+    let turn = c .before .before .before .before in
+    let z = zoneAt (start .args .w .now) 0 in
+    let ws = start .args .words .now in
+    let base = start .args .base in
+    let i = turn .loop .i in
+    let seen = turn .loop .seen in
+    let sofar = turn .loop .inv .1 in (
       omega arith,
       ⊎-elim
           (λ w. let e = sym (w .1 .given .1) ∙ c .before .nested .ensures in let f = nesting-inside _ _ e in rw (w .3) (w .2 .ensures z ws base sofar f (nesting-around _ _ e f)))

@@ -25,7 +25,9 @@ unfolding allChanged
 returns c = rw (c .if1 .taken)
 
 returns-2 : tie.Need-returns-2 Inv-loop μ-loop
-returns-2 c = sym (late (c .before .before .before .before .args .bytes .now) (c .before .before .before .before .args .changes) (omega (arith, c .before .before .if1 .left)) (omega (arith, c .if2 .taken, c .before .le32 .ensures, c .before .before .before .before .pre .1)))
+returns-2 c =
+    let start = c .before .before .before .before in
+    sym (late (start .args .bytes .now) (start .args .changes) (omega (arith, c .before .before .if1 .left)) (omega (arith, c .if2 .taken, c .before .le32 .ensures, start .pre .1)))
 
 loop-holds : tie.Need-loop-holds Inv-loop μ-loop
 unfolding allChanged
@@ -35,16 +37,19 @@ changed-requires : tie.Need-changed-requires Inv-loop μ-loop
 changed-requires c κs = (omega arith, c .before .before .before .before .before .before .pre .2)
 
 returns-3 : tie.Need-returns-3 Inv-loop μ-loop
-returns-3 c = sym (one-wrong (c .before .before .before .before .before .before .before .before .args .bytes .now) (c .before .before .before .before .before .before .before .before .args .changes) (c .before .before .before .loop .j) (c .before .before .loop-test .taken) (rw (c .before .changed .ensures, not-true (c .before .changed .result) (c .if3 .taken))))
+returns-3 c =
+    let start = c .before .before .before .before .before .before .before .before in
+    sym (one-wrong (start .args .bytes .now) (start .args .changes) (c .before .before .before .loop .j) (c .before .before .loop-test .taken) (rw (c .before .changed .ensures, not-true (c .before .changed .result) (c .if3 .taken))))
 
 loop-again : tie.Need-loop-again Inv-loop μ-loop
 loop-again c = (omega arith, one-more (c .before .before .before .before .before .before .before .before .args .bytes .now) (c .before .before .before .loop .j) (c .before .before .before .loop .inv .1) (rw (c .before .changed .ensures, not-false (c .before .changed .result) (c .if3 .left))))
 
 returns-4 : tie.Need-returns-4 Inv-loop μ-loop
 returns-4 c =
-    let bytes = c .before .before .before .before .before .before .args .bytes .now in
-    let n = c .before .before .before .before .before .before .args .changes in
-    rw (ended bytes (c .before .loop .inv) (c .loop-test .left), lt-leb n 0 (omega (arith, c .before .before .before .before .if1 .left)), lt-ltb (time bytes n) (duration bytes) (omega (arith, c .before .before .if2 .left, c .before .before .before .le32 .ensures, c .before .before .before .before .before .before .pre .1)))
+    let start = c .before .before .before .before .before .before in
+    let bytes = start .args .bytes .now in
+    let n = start .args .changes in
+    rw (ended bytes (c .before .loop .inv) (c .loop-test .left), lt-leb n 0 (omega (arith, c .before .before .before .before .if1 .left)), lt-ltb (time bytes n) (duration bytes) (omega (arith, c .before .before .if2 .left, c .before .before .before .le32 .ensures, start .pre .1)))
 
 pub all-changed-spec : {M : Type 1} → statement M
 all-changed-spec =

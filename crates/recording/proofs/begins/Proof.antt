@@ -14,22 +14,34 @@ unfolding begins
 returns c = rw (eq-eqb (c .before .before .args .j) 0 (c .if1 .taken))
 
 returns-2 : tie.Need-returns-2
-returns-2 c = ap (λ (r : Recording). r .ticks) (read-numbers (c .before .before .before .before .pre)) ∙ sym (begins-end (c .before .before .before .before .args .bytes .now) (c .before .before .before .before .args .j) (omega (arith, read-count (c .before .before .before .before .pre))))
+returns-2 c =
+    let start = c .before .before .before .before in
+    ap (λ (r : Recording). r .ticks) (read-numbers (start .pre)) ∙ sym (begins-end (start .args .bytes .now) (start .args .j) (omega (arith, read-count (start .pre))))
 
 mul-le32 : tie.Need-mul-le32
-mul-le32 c = omega (arith, read-room (c .before .before .before .before .pre) (c .before .before .before .before .args .j) (omega (arith, read-count (c .before .before .before .before .pre))))
+mul-le32 c =
+    let start = c .before .before .before .before in
+    omega (arith, read-room (start .pre) (start .args .j) (omega (arith, read-count (start .pre))))
 
 add-le32 : tie.Need-add-le32
-add-le32 c = omega (arith, read-room (c .before .before .before .before .pre) (c .before .before .before .before .args .j) (omega (arith, read-count (c .before .before .before .before .pre))))
+add-le32 c =
+    let start = c .before .before .before .before in
+    omega (arith, read-room (start .pre) (start .args .j) (omega (arith, read-count (start .pre))))
 
 le32-requires : tie.Need-le32-requires
-le32-requires c κs = omega (arith, read-room (c .before .before .before .before .pre) (c .before .before .before .before .args .j) (omega (arith, read-count (c .before .before .before .before .pre))))
+le32-requires c κs =
+    let start = c .before .before .before .before in
+    omega (arith, read-room (start .pre) (start .args .j) (omega (arith, read-count (start .pre))))
 
 tick-requires : tie.Need-tick-requires
-tick-requires c κs = rw (c .le32 .ensures) (read-time (c .before .before .before .before .before .pre) (c .before .before .before .before .before .args .j) (omega arith) (omega (arith, read-count (c .before .before .before .before .before .pre))))
+tick-requires c κs =
+    let start = c .before .before .before .before .before in
+    rw (c .le32 .ensures) (read-time (start .pre) (start .args .j) (omega arith) (omega (arith, read-count (start .pre))))
 
 returns-3 : tie.Need-returns-3
-returns-3 c = c .tick .ensures ∙ rw (c .before .le32 .ensures) (sym (begins-change (c .before .before .before .before .before .before .args .bytes .now) (c .before .before .before .before .before .before .args .j) (omega arith) (omega (arith, read-count (c .before .before .before .before .before .before .pre)))))
+returns-3 c =
+    let start = c .before .before .before .before .before .before in
+    c .tick .ensures ∙ rw (c .before .le32 .ensures) (sym (begins-change (start .args .bytes .now) (start .args .j) (omega arith) (omega (arith, read-count (start .pre)))))
 
 pub begins-spec : {M : Type 1} → statement M
 begins-spec =

@@ -19,8 +19,10 @@ returns-2 c = rw (passed (c .before .before .before .marked .ensures) (c .before
 
 returns-3 : tie.Need-returns-3
 unfolding changed
-returns-3 c = let bytes = c .before .before .before .before .before .before .args .bytes .now in let j = c .before .before .before .before .before .before .args .j in
-    rw (passed (c .before .before .before .before .marked .ensures) (c .before .before .before .if1 .left), passed (c .before .before .rises .ensures) (c .before .if2 .left), ← within (levels bytes j) (2 ^ channels bytes) (pow-pos (channels bytes)), ← c .le16 .ensures .0, ← c .before .before .before .before .before .before .pre .1, and-comm (ltb (time bytes j) (duration bytes)))
+returns-3 c =
+    let start = c .before .before .before .before .before .before in
+    let bytes = start .args .bytes .now in let j = start .args .j in
+    rw (passed (c .before .before .before .before .marked .ensures) (c .before .before .before .if1 .left), passed (c .before .before .rises .ensures) (c .before .if2 .left), ← within (levels bytes j) (2 ^ channels bytes) (pow-pos (channels bytes)), ← c .le16 .ensures .0, ← start .pre .1, and-comm (ltb (time bytes j) (duration bytes)))
 
 pub changed-spec : {M : Type 1} → statement M
 changed-spec =

@@ -20,16 +20,19 @@ returns : tie.Need-returns
 returns c = next-none (c .before .before .before .before .before .pre) (cut (c .before .before .before)) (c .before .before .seek .ensures) (omega (arith, c .if1 .taken, c .before .begins .ensures))
 
 add-seek : tie.Need-add-seek
-add-seek c = let h = early (c .before .before .before .before .before .args .bytes .now) (c .before .before .seek .result) (omega (arith, c .if1 .left, c .before .begins .ensures, cut (c .before .before .before))) in omega (arith, h, read-room (c .before .before .before .before .before .pre) (c .before .before .seek .result) h)
+add-seek c =
+    let start = c .before .before .before .before .before in
+    let h = early (start .args .bytes .now) (c .before .before .seek .result) (omega (arith, c .if1 .left, c .before .begins .ensures, cut (c .before .before .before))) in omega (arith, h, read-room (start .pre) (c .before .before .seek .result) h)
 
 seek-requires-2 : tie.Need-seek-requires-2
 seek-requires-2 c κs = (c .before .before .before .before .before .pre, omega (arith, cut (c .before .before .before)))
 
 returns-2 : tie.Need-returns-2
 returns-2 c =
-    next-found (c .before .before .before .before .before .before .before .before .before .pre) (cut (c .before .before .before .before .before .before .before)) (c .before .before .before .before .before .before .seek .ensures)
+    let start = c .before .before .before .before .before .before .before .before .before in
+    next-found (start .pre) (cut (c .before .before .before .before .before .before .before)) (c .before .before .before .before .before .before .seek .ensures)
     (omega (arith, c .before .before .before .before .if1 .left, c .before .before .before .before .before .begins .ensures)) (c .before .before .before .seek2 .ensures)
-    (c .before .later .ensures ∙ ap (max (c .before .before .before .before .before .before .before .before .before .args .from)) (c .before .before .before .before .before .begins .ensures))
+    (c .before .later .ensures ∙ ap (max (start .args .from)) (c .before .before .before .before .before .begins .ensures))
     (c .earlier2 .ensures ∙ ap (min (c .before .before .before .before .before .before .before .earlier .result)) (c .before .before .begins2 .ensures))
 
 pub next-run-spec : {M : Type 1} → statement M

@@ -18,13 +18,19 @@ unfolding reading
 returns-2 c = rw (passed (c .before .before .before .sized .ensures) (c .before .before .if1 .left), failed (c .before .headed .ensures) (c .if2 .taken))
 
 sub-changes : tie.Need-sub-changes
-sub-changes c = let s = sized-is (c .before .before .before .before .before .args .largest) (c .before .before .before .before .before .args .bytes .now) .0 (passed (c .before .before .before .sized .ensures) (c .before .before .if1 .left)) in omega (arith, s .some, s .whole)
+sub-changes c =
+    let start = c .before .before .before .before .before in
+    let s = sized-is (start .args .largest) (start .args .bytes .now) .0 (passed (c .before .before .before .sized .ensures) (c .before .before .if1 .left)) in omega (arith, s .some, s .whole)
 
 le32-requires : tie.Need-le32-requires
-le32-requires c κs = let s = sized-is (c .before .before .before .before .before .args .largest) (c .before .before .before .before .before .args .bytes .now) .0 (passed (c .before .before .before .sized .ensures) (c .before .before .if1 .left)) in omega (arith, s .some, s .whole)
+le32-requires c κs =
+    let start = c .before .before .before .before .before in
+    let s = sized-is (start .args .largest) (start .args .bytes .now) .0 (passed (c .before .before .before .sized .ensures) (c .before .before .if1 .left)) in omega (arith, s .some, s .whole)
 
 shared-slice-read-channels : tie.Need-shared-slice-read-channels
-shared-slice-read-channels c = let s = sized-is (c .before .before .before .before .before .before .before .args .largest) (c .before .before .before .before .before .before .before .args .bytes .now) .0 (passed (c .before .before .before .before .before .sized .ensures) (c .before .before .before .before .if1 .left)) in omega (arith, s .some, s .whole)
+shared-slice-read-channels c =
+    let start = c .before .before .before .before .before .before .before in
+    let s = sized-is (start .args .largest) (start .args .bytes .now) .0 (passed (c .before .before .before .before .before .sized .ensures) (c .before .before .before .before .if1 .left)) in omega (arith, s .some, s .whole)
 
 cast-all-changed : tie.Need-cast-all-changed
 cast-all-changed c = let h = headed-is (c .before .before .before .before .before .before .before .args .bytes .now) .0 (passed (c .before .before .before .headed .ensures) (c .before .before .if2 .left)) in record { fits = omega (arith, h .few) }
@@ -33,18 +39,24 @@ shl-all-changed : tie.Need-shl-all-changed
 shl-all-changed c = let h = headed-is (c .before .before .before .before .before .before .before .args .bytes .now) .0 (passed (c .before .before .before .headed .ensures) (c .before .before .if2 .left)) in omega (arith, h .few)
 
 all-changed-requires : tie.Need-all-changed-requires
-all-changed-requires c κs = let s = sized-is (c .before .before .before .before .before .before .before .args .largest) (c .before .before .before .before .before .before .before .args .bytes .now) .0 (passed (c .before .before .before .before .before .sized .ensures) (c .before .before .before .before .if1 .left)) in let h = headed-is (c .before .before .before .before .before .before .before .args .bytes .now) .0 (passed (c .before .before .before .headed .ensures) (c .before .before .if2 .left)) in (omega (arith, s .some, s .whole), c .before .le32 .ensures, one-bit-each _ (h .few))
+all-changed-requires c κs =
+    let start = c .before .before .before .before .before .before .before in
+    let s = sized-is (start .args .largest) (start .args .bytes .now) .0 (passed (c .before .before .before .before .before .sized .ensures) (c .before .before .before .before .if1 .left)) in let h = headed-is (start .args .bytes .now) .0 (passed (c .before .before .before .headed .ensures) (c .before .before .if2 .left)) in (omega (arith, s .some, s .whole), c .before .le32 .ensures, one-bit-each _ (h .few))
 
 returns-3 : tie.Need-returns-3
 unfolding reading
 returns-3 c = rw (passed (c .before .before .before .before .before .before .before .sized .ensures) (c .before .before .before .before .before .before .if1 .left), passed (c .before .before .before .before .before .headed .ensures) (c .before .before .before .before .if2 .left), failed (c .before .all-changed .ensures) (c .if3 .taken))
 
 tick-requires : tie.Need-tick-requires
-tick-requires c κs = let h = headed-is (c .before .before .before .before .before .before .before .before .before .args .bytes .now) .0 (passed (c .before .before .before .before .before .headed .ensures) (c .before .before .before .before .if2 .left)) in rw (c .before .before .before .le32 .ensures) (h .short)
+tick-requires c κs =
+    let start = c .before .before .before .before .before .before .before .before .before in
+    let h = headed-is (start .args .bytes .now) .0 (passed (c .before .before .before .before .before .headed .ensures) (c .before .before .before .before .if2 .left)) in rw (c .before .before .before .le32 .ensures) (h .short)
 
 returns-4 : tie.Need-returns-4
 unfolding reading
-returns-4 c = rw (passed (c .before .before .before .before .before .before .before .before .sized .ensures) (c .before .before .before .before .before .before .before .if1 .left), passed (c .before .before .before .before .before .before .headed .ensures) (c .before .before .before .before .before .if2 .left), passed (c .before .before .all-changed .ensures) (c .before .if3 .left), c .tick .ensures, c .before .before .before .before .le32 .ensures)
+returns-4 c =
+    let the-sized = c .before .before .before .before .before .before .before .before .sized in
+    rw (passed (the-sized .ensures) (c .before .before .before .before .before .before .before .if1 .left), passed (c .before .before .before .before .before .before .headed .ensures) (c .before .before .before .before .before .if2 .left), passed (c .before .before .all-changed .ensures) (c .before .if3 .left), c .tick .ensures, c .before .before .before .before .le32 .ensures)
 
 pub read-spec : {M : Type 1} → statement M
 read-spec =

@@ -23,11 +23,12 @@ loop-holds c = (omega arith, refl, nothing)
 
 loop-again : tie.Need-loop-again Inv-loop μ-loop
 unfolding rows
-loop-again c = (
-  omega arith,
-  c .before .before .line .kept .0 ∙ c .before .before .before .before .before .before .loop .inv .1,
-  rw (add-one (c .before .before .before .before .before .before .loop .i), sym (c .before .before .before .before .read-zone .ensures)) (c .before .before .before .before .before .before .loop .inv .2 then c .before .before .line .ensures),
-)
+loop-again c =
+    let turn = c .before .before .before .before .before .before in (
+      omega arith,
+      c .before .before .line .kept .0 ∙ turn .loop .inv .1,
+      rw (add-one (turn .loop .i), sym (c .before .before .before .before .read-zone .ensures)) (turn .loop .inv .2 then c .before .before .line .ensures),
+    )
 
 same-length : tie.Need-same-length Inv-loop μ-loop
 same-length c = c .before .loop .inv .1

@@ -22,12 +22,13 @@ loop-holds c = (omega arith, refl, nothing)
 
 loop-again : tie.Need-loop-again Inv-loop μ-loop
 loop-again c =
-    let i = c .before .before .before .before .before .before .loop .i in
+    let turn = c .before .before .before .before .before .before in
+    let i = turn .loop .i in
     let s = c .before .before .before .before .before .before .before .before .before .args .s .now in
     let h : i < length s = omega arith in (
       omega arith,
-      c .before .before .put .kept .0 ∙ c .before .before .before .before .before .before .loop .inv .1,
-      rw (add-one i, take-suc s i 0 h) (c .before .before .before .before .before .before .loop .inv .2 then c .before .before .put .ensures),
+      c .before .before .put .kept .0 ∙ turn .loop .inv .1,
+      rw (add-one i, take-suc s i 0 h) (turn .loop .inv .2 then c .before .before .put .ensures),
     )
 
 same-length : tie.Need-same-length Inv-loop μ-loop

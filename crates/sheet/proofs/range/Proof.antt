@@ -9,8 +9,14 @@ use Rattle.sheet.proofs.range.Tie as tie
 
 returns : tie.Need-returns
 unfolding range
-returns c = rw (sym (back {z = c .before .before .before .before .before .before .before .before .before .before .before .before .before .before .before .before .negated .result} (search needs) ∙ c .before .before .before .before .before .before .before .before .before .before .before .before .before .before .before .before .negated .ensures), sym (back {z = c .before .before .before .before .before .before .before .number .result} (search needs) ∙ c .before .before .before .before .before .before .before .number .ensures .0))
-    (c .before .before .before .before .before .before .before .before .before .before .before .before .before .before .before .before .before .before .before .before .bracket .ensures then c .before .before .before .before .before .before .before .before .before .before .before .before .before .before .before .integer .ensures then c .before .before .before .before .before .before .before .before .before .before .before .put .ensures then c .before .before .before .before .before .before .integer2 .ensures then c .before .before .bracket2 .ensures)
+returns c =
+    let the-bracket = c .before .before .before .before .before .before .before .before .before .before .before .before .before .before .before .before .before .before .before .before .bracket in
+    let the-negated = c .before .before .before .before .before .before .before .before .before .before .before .before .before .before .before .before .negated in
+    let the-integer = c .before .before .before .before .before .before .before .before .before .before .before .before .before .before .before .integer in
+    let the-put = c .before .before .before .before .before .before .before .before .before .before .before .put in
+    let the-number = c .before .before .before .before .before .before .before .number in
+    rw (sym (back {z = the-negated .result} (search needs) ∙ the-negated .ensures), sym (back {z = the-number .result} (search needs) ∙ the-number .ensures .0))
+    (the-bracket .ensures then the-integer .ensures then the-put .ensures then c .before .before .before .before .before .before .integer2 .ensures then c .before .before .bracket2 .ensures)
 
 pub range-spec : {M : Type 1} → statement M
 range-spec =

@@ -7,7 +7,9 @@ use Rattle.sheet.proofs.text.Statement.{statement}
 use Rattle.sheet.proofs.text.Tie as tie
 
 returns : tie.Need-returns
-returns c = let r = c .before .before .before .before .before .before .before .returned .ensures in let p = refusal-sheet (c .before .before .before .before .before .before .before .before .before .args .outcome) (rw r at (c .before .before .before .before .before .if1 .taken)) (c .before .before .before .before .before .before .before .before .before .args .front .now) in
+returns c =
+    let start = c .before .before .before .before .before .before .before .before .before in
+    let r = c .before .before .before .before .before .before .before .returned .ensures in let p = refusal-sheet (start .args .outcome) (rw r at (c .before .before .before .before .before .if1 .taken)) (start .args .front .now) in
     told _ _ (omega (arith, p .1)) (p .0) (rw r at (c .before .before .refused .ensures))
 
 returns-2 : tie.Need-returns-2

@@ -28,8 +28,9 @@ returns-2 c =
 returns-3 : tie.Need-returns-3
 unfolding zoneAt
 returns-3 c =
-    let z = zoneAt (c .before .before .before .before .before .before .before .before .args .outer .now) (c .before .before .before .before .before .before .before .before .args .j) in
-    let w = zoneAt (c .before .before .before .before .before .before .before .before .args .inner .now) (c .before .before .before .before .before .before .before .before .args .i) in
+    let start = c .before .before .before .before .before .before .before .before in
+    let z = zoneAt (start .args .outer .now) (start .args .j) in
+    let w = zoneAt (start .args .inner .now) (start .args .i) in
     let v = others-decide z w (sym (c .before .before .before .before .before .before .before .word-at-most .ensures) ∙ is-true (c .before .before .before .before .before .before .if1 .left)) (sym (c .before .before .before .before .before .word-at-most2 .ensures) ∙ is-true (c .before .before .before .before .if2 .left)) (c .before .before .before .word-at-most3 .ensures) (c .before .before .word-at-most4 .ensures) (c .before .word-at-most5 .ensures) (c .word-at-most6 .ensures) in
     (v, contains-means z w v)
 

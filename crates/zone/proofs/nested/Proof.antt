@@ -8,27 +8,41 @@ use Rattle.zone.proofs.nested.Tie as tie
 
 returns : tie.Need-returns
 unfolding zoneAt
-returns c = nested-by (zoneAt (c .before .before .before .before .args .a .now) (c .before .before .before .before .args .i)) (zoneAt (c .before .before .before .before .args .b .now) (c .before .before .before .before .args .j)) (starts-decide (zoneAt (c .before .before .before .before .args .b .now) (c .before .before .before .before .args .j)) (zoneAt (c .before .before .before .before .args .a .now) (c .before .before .before .before .args .i)) (sym (c .before .before .before .word-at-most .ensures) ∙ is-false (c .before .before .if1 .taken))) (sym (c .if2 .taken) ∙ c .before .included .ensures .0)
+returns c =
+    let start = c .before .before .before .before in
+    nested-by (zoneAt (start .args .a .now) (start .args .i)) (zoneAt (start .args .b .now) (start .args .j)) (starts-decide (zoneAt (start .args .b .now) (start .args .j)) (zoneAt (start .args .a .now) (start .args .i)) (sym (c .before .before .before .word-at-most .ensures) ∙ is-false (c .before .before .if1 .taken))) (sym (c .if2 .taken) ∙ c .before .included .ensures .0)
 
 returns-2 : tie.Need-returns-2
 unfolding zoneAt
-returns-2 c = nested-by (zoneAt (c .before .before .before .before .args .a .now) (c .before .before .before .before .args .i)) (zoneAt (c .before .before .before .before .args .b .now) (c .before .before .before .before .args .j)) (starts-decide (zoneAt (c .before .before .before .before .args .b .now) (c .before .before .before .before .args .j)) (zoneAt (c .before .before .before .before .args .a .now) (c .before .before .before .before .args .i)) (sym (c .before .before .before .word-at-most .ensures) ∙ is-false (c .before .before .if1 .taken))) (sym (c .if2 .left) ∙ c .before .included .ensures .0)
+returns-2 c =
+    let start = c .before .before .before .before in
+    nested-by (zoneAt (start .args .a .now) (start .args .i)) (zoneAt (start .args .b .now) (start .args .j)) (starts-decide (zoneAt (start .args .b .now) (start .args .j)) (zoneAt (start .args .a .now) (start .args .i)) (sym (c .before .before .before .word-at-most .ensures) ∙ is-false (c .before .before .if1 .taken))) (sym (c .if2 .left) ∙ c .before .included .ensures .0)
 
 returns-3 : tie.Need-returns-3
-returns-3 c = nested-by (zoneAt (c .before .before .before .before .before .before .args .a .now) (c .before .before .before .before .before .before .args .i)) (zoneAt (c .before .before .before .before .before .before .args .b .now) (c .before .before .before .before .before .before .args .j)) (sym (c .if4 .taken) ∙ c .before .included2 .ensures .0) refl
+returns-3 c =
+    let start = c .before .before .before .before .before .before in
+    nested-by (zoneAt (start .args .a .now) (start .args .i)) (zoneAt (start .args .b .now) (start .args .j)) (sym (c .if4 .taken) ∙ c .before .included2 .ensures .0) refl
 
 returns-4 : tie.Need-returns-4
 unfolding zoneAt
-returns-4 c = nested-by (zoneAt (c .before .before .before .before .before .before .args .a .now) (c .before .before .before .before .before .before .args .i)) (zoneAt (c .before .before .before .before .before .before .args .b .now) (c .before .before .before .before .before .before .args .j)) (sym (c .if4 .left) ∙ c .before .included2 .ensures .0) (starts-decide (zoneAt (c .before .before .before .before .before .before .args .a .now) (c .before .before .before .before .before .before .args .i)) (zoneAt (c .before .before .before .before .before .before .args .b .now) (c .before .before .before .before .before .before .args .j)) (sym (c .before .before .before .word-at-most2 .ensures) ∙ is-false (c .before .before .if3 .taken)))
+returns-4 c =
+    let start = c .before .before .before .before .before .before in
+    nested-by (zoneAt (start .args .a .now) (start .args .i)) (zoneAt (start .args .b .now) (start .args .j)) (sym (c .if4 .left) ∙ c .before .included2 .ensures .0) (starts-decide (zoneAt (start .args .a .now) (start .args .i)) (zoneAt (start .args .b .now) (start .args .j)) (sym (c .before .before .before .word-at-most2 .ensures) ∙ is-false (c .before .before .if3 .taken)))
 
 returns-5 : tie.Need-returns-5
-returns-5 c = nested-by (zoneAt (c .before .before .before .before .before .before .args .a .now) (c .before .before .before .before .before .before .args .i)) (zoneAt (c .before .before .before .before .before .before .args .b .now) (c .before .before .before .before .before .before .args .j)) (sym (c .if5 .taken) ∙ c .before .included3 .ensures .0) refl
+returns-5 c =
+    let start = c .before .before .before .before .before .before in
+    nested-by (zoneAt (start .args .a .now) (start .args .i)) (zoneAt (start .args .b .now) (start .args .j)) (sym (c .if5 .taken) ∙ c .before .included3 .ensures .0) refl
 
 returns-6 : tie.Need-returns-6
-returns-6 c = nested-by (zoneAt (c .before .before .before .before .before .before .before .before .args .a .now) (c .before .before .before .before .before .before .before .before .args .i)) (zoneAt (c .before .before .before .before .before .before .before .before .args .b .now) (c .before .before .before .before .before .before .before .before .args .j)) (sym (c .before .before .if5 .left) ∙ c .before .before .before .included3 .ensures .0) (sym (c .if6 .taken) ∙ c .before .included4 .ensures .0)
+returns-6 c =
+    let start = c .before .before .before .before .before .before .before .before in
+    nested-by (zoneAt (start .args .a .now) (start .args .i)) (zoneAt (start .args .b .now) (start .args .j)) (sym (c .before .before .if5 .left) ∙ c .before .before .before .included3 .ensures .0) (sym (c .if6 .taken) ∙ c .before .included4 .ensures .0)
 
 returns-7 : tie.Need-returns-7
-returns-7 c = nested-by (zoneAt (c .before .before .before .before .before .before .before .before .args .a .now) (c .before .before .before .before .before .before .before .before .args .i)) (zoneAt (c .before .before .before .before .before .before .before .before .args .b .now) (c .before .before .before .before .before .before .before .before .args .j)) (sym (c .before .before .if5 .left) ∙ c .before .before .before .included3 .ensures .0) (sym (c .if6 .left) ∙ c .before .included4 .ensures .0)
+returns-7 c =
+    let start = c .before .before .before .before .before .before .before .before in
+    nested-by (zoneAt (start .args .a .now) (start .args .i)) (zoneAt (start .args .b .now) (start .args .j)) (sym (c .before .before .if5 .left) ∙ c .before .before .before .included3 .ensures .0) (sym (c .if6 .left) ∙ c .before .included4 .ensures .0)
 
 pub nested-spec : {M : Type 1} → statement M
 nested-spec =

@@ -8,9 +8,12 @@ use Rattle.zone.proofs.Zone.contains.Tie as tie
 
 returns : tie.Need-returns
 returns c =
-    let z = c .before .before .before .before .before .before .args .self in
-    let w = c .before .before .before .before .before .before .args .other in
-    let v : c .before .before .before .before .before .at-most .result && c .before .before .before .before .at-most2 .result && c .before .before .before .at-most3 .result && c .before .before .at-most4 .result && c .before .at-most5 .result && c .at-most6 .result ≡ contains z w = λ i. c .before .before .before .before .before .at-most .ensures i && c .before .before .before .before .at-most2 .ensures i && c .before .before .before .at-most3 .ensures i && c .before .before .at-most4 .ensures i && c .before .at-most5 .ensures i && c .at-most6 .ensures i in
+    let the-at-most = c .before .before .before .before .before .at-most in
+    let the-at-most2 = c .before .before .before .before .at-most2 in
+    let start = c .before .before .before .before .before .before in
+    let z = start .args .self in
+    let w = start .args .other in
+    let v : the-at-most .result && the-at-most2 .result && c .before .before .before .at-most3 .result && c .before .before .at-most4 .result && c .before .at-most5 .result && c .at-most6 .result ≡ contains z w = λ i. the-at-most .ensures i && the-at-most2 .ensures i && c .before .before .before .at-most3 .ensures i && c .before .before .at-most4 .ensures i && c .before .at-most5 .ensures i && c .at-most6 .ensures i in
     (v, contains-means z w v)
 
 pub contains-spec : {M : Type 1} → statement M

@@ -9,7 +9,9 @@ use Rattle.zone.proofs.Zone.joined.Statement.{statement}
 use Rattle.zone.proofs.Zone.joined.Tie as tie
 
 or-sum-requires-5 : tie.Need-or-sum-requires-5
-or-sum-requires-5 c κs = (rw (c .plus .ensures) (omega (arith, small-sum (c .before .before .before .before .before .args .other .length) (c .before .before .before .before .before .args .self .length) (c .before .before .before .before .before .pre .1 .length) (c .before .before .before .before .before .pre .0 .length))), omega (arith, c .before .before .before .before .before .pre .1 .end), omega (arith, c .before .before .before .before .before .pre .0 .nstart))
+or-sum-requires-5 c κs =
+    let start = c .before .before .before .before .before in
+    (rw (c .plus .ensures) (omega (arith, small-sum (start .args .other .length) (start .args .self .length) (start .pre .1 .length) (start .pre .0 .length))), omega (arith, start .pre .1 .end), omega (arith, start .pre .0 .nstart))
 
 or-sum-requires-6 : tie.Need-or-sum-requires-6
 or-sum-requires-6 c κs = (rw (c .plus2 .ensures) (omega (arith, small-sum (c .before .before .before .before .before .before .before .args .other .nlength) (c .before .before .before .before .before .before .before .args .self .nlength) (c .before .before .before .before .before .before .before .pre .1 .nlength) (c .before .before .before .before .before .before .before .pre .0 .nlength))), omega (arith, c .before .before .before .before .before .before .before .pre .1 .nend), omega (arith, c .before .before .before .before .before .before .before .pre .0 .start))

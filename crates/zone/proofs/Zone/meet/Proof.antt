@@ -25,13 +25,16 @@ returns-2 c =
     (v, meet-means z w v)
 
 tighten-requires : tie.Need-tighten-requires
-tighten-requires c κs = rw (c .both .ensures) (ranged-both (c .before .before .before .before .before .args .self) (c .before .before .before .before .before .args .other) (c .before .before .before .before .before .pre .0) (c .before .before .before .before .before .pre .1))
+tighten-requires c κs =
+    let start = c .before .before .before .before .before in
+    rw (c .both .ensures) (ranged-both (start .args .self) (start .args .other) (start .pre .0) (start .pre .1))
 
 returns-3 : tie.Need-returns-3
 unfolding meet
 returns-3 c =
-    let z = c .before .before .before .before .before .before .args .self in
-    let w = c .before .before .before .before .before .before .args .other in
+    let start = c .before .before .before .before .before .before in
+    let z = start .args .self in
+    let w = start .args .other in
     let v : c .tighten .result ≡ meet z w = c .tighten .ensures .0 ∙ ap tighten (c .before .both .ensures) in
     (v, meet-means z w v)
 

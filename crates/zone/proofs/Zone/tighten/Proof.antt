@@ -24,9 +24,11 @@ leaves-room-requires-2 c κs = let r = rw (← c .before .before .tighter .ensur
 returns-2 : tie.Need-returns-2
 unfolding checked
 returns-2 c =
-    let t = c .before .before .before .before .tighter .result in
-    let v : empty ≡ tighten (c .before .before .before .before .before .args .self) = tighten-checked (c .before .before .before .before .before .args .self) (c .before .before .before .before .tighter .ensures) (no-room _ _ (where-room (t .length) (t .nlength) (zone t)) (c .before .leaves-room2 .ensures) (c .if2 .taken) ∙ has-room _ _ (where-room (t .end) (t .nend) (where-room (t .length) (t .nlength) (zone t))) (c .before .before .before .leaves-room .ensures) (c .before .before .if1 .left)) in
-    (v, tighten-means (c .before .before .before .before .before .args .self) v)
+    let the-tighter = c .before .before .before .before .tighter in
+    let start = c .before .before .before .before .before in
+    let t = the-tighter .result in
+    let v : empty ≡ tighten (start .args .self) = tighten-checked (start .args .self) (the-tighter .ensures) (no-room _ _ (where-room (t .length) (t .nlength) (zone t)) (c .before .leaves-room2 .ensures) (c .if2 .taken) ∙ has-room _ _ (where-room (t .end) (t .nend) (where-room (t .length) (t .nlength) (zone t))) (c .before .before .before .leaves-room .ensures) (c .before .before .if1 .left)) in
+    (v, tighten-means (start .args .self) v)
 
 leaves-room-requires-3 : tie.Need-leaves-room-requires-3
 leaves-room-requires-3 c κs = let r = rw (← c .before .before .before .before .tighter .ensures) at (ranged-tighter (c .before .before .before .before .before .args .self) (c .before .before .before .before .before .pre)) in (omega (arith, r .length), omega (arith, r .nlength))
@@ -34,16 +36,20 @@ leaves-room-requires-3 c κs = let r = rw (← c .before .before .before .before
 returns-3 : tie.Need-returns-3
 unfolding checked
 returns-3 c =
-    let t = c .before .before .before .before .before .before .tighter .result in
-    let v : empty ≡ tighten (c .before .before .before .before .before .before .before .args .self) = tighten-checked (c .before .before .before .before .before .before .before .args .self) (c .before .before .before .before .before .before .tighter .ensures) (no-room _ _ (zone t) (c .before .leaves-room3 .ensures) (c .if3 .taken) ∙ has-room _ _ (where-room (t .length) (t .nlength) (zone t)) (c .before .before .before .leaves-room2 .ensures) (c .before .before .if2 .left) ∙ has-room _ _ (where-room (t .end) (t .nend) (where-room (t .length) (t .nlength) (zone t))) (c .before .before .before .before .before .leaves-room .ensures) (c .before .before .before .before .if1 .left)) in
-    (v, tighten-means (c .before .before .before .before .before .before .before .args .self) v)
+    let the-tighter = c .before .before .before .before .before .before .tighter in
+    let start = c .before .before .before .before .before .before .before in
+    let t = the-tighter .result in
+    let v : empty ≡ tighten (start .args .self) = tighten-checked (start .args .self) (the-tighter .ensures) (no-room _ _ (zone t) (c .before .leaves-room3 .ensures) (c .if3 .taken) ∙ has-room _ _ (where-room (t .length) (t .nlength) (zone t)) (c .before .before .before .leaves-room2 .ensures) (c .before .before .if2 .left) ∙ has-room _ _ (where-room (t .end) (t .nend) (where-room (t .length) (t .nlength) (zone t))) (c .before .before .before .before .before .leaves-room .ensures) (c .before .before .before .before .if1 .left)) in
+    (v, tighten-means (start .args .self) v)
 
 returns-4 : tie.Need-returns-4
 unfolding checked
 returns-4 c =
-    let t = c .before .before .before .before .before .before .tighter .result in
-    let v : zone t ≡ tighten (c .before .before .before .before .before .before .before .args .self) = tighten-checked (c .before .before .before .before .before .before .before .args .self) (c .before .before .before .before .before .before .tighter .ensures) (has-room _ _ (zone t) (c .before .leaves-room3 .ensures) (c .if3 .left) ∙ has-room _ _ (where-room (t .length) (t .nlength) (zone t)) (c .before .before .before .leaves-room2 .ensures) (c .before .before .if2 .left) ∙ has-room _ _ (where-room (t .end) (t .nend) (where-room (t .length) (t .nlength) (zone t))) (c .before .before .before .before .before .leaves-room .ensures) (c .before .before .before .before .if1 .left)) in
-    (v, tighten-means (c .before .before .before .before .before .before .before .args .self) v)
+    let the-tighter = c .before .before .before .before .before .before .tighter in
+    let start = c .before .before .before .before .before .before .before in
+    let t = the-tighter .result in
+    let v : zone t ≡ tighten (start .args .self) = tighten-checked (start .args .self) (the-tighter .ensures) (has-room _ _ (zone t) (c .before .leaves-room3 .ensures) (c .if3 .left) ∙ has-room _ _ (where-room (t .length) (t .nlength) (zone t)) (c .before .before .before .leaves-room2 .ensures) (c .before .before .if2 .left) ∙ has-room _ _ (where-room (t .end) (t .nend) (where-room (t .length) (t .nlength) (zone t))) (c .before .before .before .before .before .leaves-room .ensures) (c .before .before .before .before .if1 .left)) in
+    (v, tighten-means (start .args .self) v)
 
 pub tighten-spec : {M : Type 1} → statement M
 tighten-spec =
