@@ -376,13 +376,13 @@ impl Zone {
     {
         let last = positive(to);
         let first = negative(from);
-        let whole = add(last, first);
+        let longest = add(last, first);
         Zone {
             start: Limit::AtMost(last),
             nstart: Limit::AtMost(first),
             end: Limit::AtMost(last),
             nend: Limit::AtMost(first),
-            length: Limit::AtMost(whole),
+            length: Limit::AtMost(longest),
             nlength: Limit::AtMost(0),
         }
     }
