@@ -10,7 +10,7 @@ use borrow.Author.Tests.{ltb-true, ltb-false, lt-ltb, le-ltb}
 use Rattle.expression.specs.declared.Range.{Range}
 use Rattle.expression.specs.declared.Upper.{Upper}
 use Rattle.expression.specs.declared.Upper.the-variants.{Endless, UpTo}
-use Rattle.expression.specs.Expression.{Expression, epsilon, high, low, union, intersection, concatenation, star, band, letters, ranges}
+use Rattle.expression.specs.Expression.{Expression, epsilon, literal, join, Star, Band, unary, letters, ranges}
 use Rattle.expression.specs.Refusal.{WrongUpper, Wrong}
 use Rattle.expression.specs.Readers.{cap, cappedUpper, cappedRange, capped, width, wrongUpper, wrongRange, wrong}
 use Rattle.expression.proofs.Text.{false-true}
@@ -33,13 +33,9 @@ join-below e f p q m = ⊎-elim (λ a. omega (arith, p a)) (λ a. omega (arith, 
 pub letter-below : (e : Expression) {k : ℕ} → List·Memᴰ k (letters e) → k < width e
 unfolding letters width
 letter-below epsilon m = absurd (List·Memᴰ·not-nil m)
-letter-below (high k) m = omega (arith, List·Memᴰ·eq-of-singleton m)
-letter-below (low k) m = omega (arith, List·Memᴰ·eq-of-singleton m)
-letter-below (union e f) m = join-below e f (λ a. letter-below e a) (λ a. letter-below f a) m
-letter-below (intersection e f) m = join-below e f (λ a. letter-below e a) (λ a. letter-below f a) m
-letter-below (concatenation e f) m = join-below e f (λ a. letter-below e a) (λ a. letter-below f a) m
-letter-below (star e) m = letter-below e m
-letter-below (band r e) m = letter-below e m
+letter-below (literal s k) m = omega (arith, List·Memᴰ·eq-of-singleton m)
+letter-below (join j e f) m = join-below e f (λ a. letter-below e a) (λ a. letter-below f a) m
+letter-below (unary u e) m = letter-below e m
 
 -- a letter of s at or beyond c
 abbrev Beyond : ℕ → List ℕ → Type 0
@@ -57,13 +53,9 @@ join-beyond e f c p q h = go (ltb c (width e)) refl
 pub letter-beyond : (e : Expression) (c : ℕ) → c < width e → Beyond c (letters e)
 unfolding letters width
 letter-beyond epsilon c h = absurd (omega arith)
-letter-beyond (high k) c h = (k, List·Memᴰ·head refl, omega arith)
-letter-beyond (low k) c h = (k, List·Memᴰ·head refl, omega arith)
-letter-beyond (union e f) c h = join-beyond e f c (λ a. letter-beyond e c a) (λ a. letter-beyond f c a) h
-letter-beyond (intersection e f) c h = join-beyond e f c (λ a. letter-beyond e c a) (λ a. letter-beyond f c a) h
-letter-beyond (concatenation e f) c h = join-beyond e f c (λ a. letter-beyond e c a) (λ a. letter-beyond f c a) h
-letter-beyond (star e) c h = letter-beyond e c h
-letter-beyond (band r e) c h = letter-beyond e c h
+letter-beyond (literal s k) c h = (k, List·Memᴰ·head refl, omega arith)
+letter-beyond (join j e f) c h = join-beyond e f c (λ a. letter-beyond e c a) (λ a. letter-beyond f c a) h
+letter-beyond (unary u e) c h = letter-beyond e c h
 
 -- RANGES
 
@@ -97,13 +89,10 @@ join-some e f p q h =
 pub range-wrong : (e : Expression) → wrong e ≡ true → Some (ranges e)
 unfolding ranges wrong
 range-wrong epsilon h = absurd (false-true h)
-range-wrong (high k) h = absurd (false-true h)
-range-wrong (low k) h = absurd (false-true h)
-range-wrong (union e f) h = join-some e f (λ a. range-wrong e a) (λ a. range-wrong f a) h
-range-wrong (intersection e f) h = join-some e f (λ a. range-wrong e a) (λ a. range-wrong f a) h
-range-wrong (concatenation e f) h = join-some e f (λ a. range-wrong e a) (λ a. range-wrong f a) h
-range-wrong (star e) h = range-wrong e h
-range-wrong (band r e) h =
+range-wrong (literal s k) h = absurd (false-true h)
+range-wrong (join j e f) h = join-some e f (λ a. range-wrong e a) (λ a. range-wrong f a) h
+range-wrong (unary Star e) h = range-wrong e h
+range-wrong (unary (Band r) e) h =
     ⊎-elim (λ w. (r, List·Memᴰ·head refl, wrong-range-some r w)) (λ w. let a = range-wrong e w in (a .0, List·Memᴰ·tail (a .1), a .2))
     (or-some (wrongRange r) (wrong e) h)
 
@@ -114,13 +103,10 @@ join-none e f p q h m w = let a = or-none _ _ h in ⊎-elim (λ x. p (a .0) x w)
 pub range-right : (e : Expression) {r : Range} → wrong e ≡ false → List·Memᴰ r (ranges e) → Wrong r → ⊥
 unfolding ranges wrong
 range-right epsilon h m w = List·Memᴰ·not-nil m
-range-right (high k) h m w = List·Memᴰ·not-nil m
-range-right (low k) h m w = List·Memᴰ·not-nil m
-range-right (union e f) h m w = join-none e f (λ a b c. range-right e a b c) (λ a b c. range-right f a b c) h m w
-range-right (intersection e f) h m w = join-none e f (λ a b c. range-right e a b c) (λ a b c. range-right f a b c) h m w
-range-right (concatenation e f) h m w = join-none e f (λ a b c. range-right e a b c) (λ a b c. range-right f a b c) h m w
-range-right (star e) h m w = range-right e h m w
-range-right (band s e) {r} h m w =
+range-right (literal s k) h m w = List·Memᴰ·not-nil m
+range-right (join j e f) h m w = join-none e f (λ a b c. range-right e a b c) (λ a b c. range-right f a b c) h m w
+range-right (unary Star e) h m w = range-right e h m w
+range-right (unary (Band s) e) {r} h m w =
     let a = or-none (wrongRange s) (wrong e) h in
     ⊎-elim (λ x. wrong-range-none r (rw x (a .0)) w) (λ x. range-right e (a .1) x w) (List·Memᴰ·cases-cons m)
 
@@ -168,13 +154,10 @@ capped-upper lo (UpTo hi) e = ap UpTo (cap-same hi (or-none _ _ e .0))
 pub capped-same : (e : Expression) → wrong e ≡ false → capped e ≡ e
 unfolding capped wrong
 capped-same epsilon h = refl
-capped-same (high k) h = refl
-capped-same (low k) h = refl
-capped-same (union e f) h = let a = or-none _ _ h in rw (capped-same e (a .0), capped-same f (a .1))
-capped-same (intersection e f) h = let a = or-none _ _ h in rw (capped-same e (a .0), capped-same f (a .1))
-capped-same (concatenation e f) h = let a = or-none _ _ h in rw (capped-same e (a .0), capped-same f (a .1))
-capped-same (star e) h = rw (capped-same e h)
-capped-same (band r e) h =
+capped-same (literal s k) h = refl
+capped-same (join j e f) h = let a = or-none _ _ h in rw (capped-same e (a .0), capped-same f (a .1))
+capped-same (unary Star e) h = rw (capped-same e h)
+capped-same (unary (Band r) e) h =
     let a = or-none (wrongRange r) (wrong e) h in
     let b = or-none (ltb 1000000 (r .lo)) (wrongUpper (r .lo) (r .hi)) (a .0) in
     rw (capped-same e (a .1), cap-same (r .lo) (b .0), capped-upper (r .lo) (r .hi) (b .1))

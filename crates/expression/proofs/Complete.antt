@@ -8,7 +8,7 @@ use lib.Dec.{ltb}
 use borrow.Author.Tests.{lt-ltb, le-ltb, ne-eqb}
 use Rattle.expression.specs.declared.Range.{Range}
 use Rattle.expression.specs.declared.Upper.the-variants.{UpTo}
-use Rattle.expression.specs.Expression.{Expression}
+use Rattle.expression.specs.Expression.{Expression, join}
 use Rattle.expression.specs.Grammar.{
   Number,
   digit,
@@ -56,7 +56,6 @@ use Rattle.expression.specs.Descent.{
   ampersands,
   dots,
   mark,
-  joined,
   Rank,
   joining,
   repeating,
@@ -167,7 +166,7 @@ reads-alone : (j : Join) (s : List ℕ) (e : Expression) → Reads (below j) s e
 unfolding bind
 reads-alone j s e f r z = let w = stops j e r z in joining-is j (s ++ r) ∙ rw (f r (w .0) ∙ w .1)
 
-reads-also : (j : Join) (s u : List ℕ) (e f : Expression) → Reads (joining j) s e → Reads (below j) u f → Reads (joining j) (s ++ (mark j ∷ u)) (joined j e f)
+reads-also : (j : Join) (s u : List ℕ) (e f : Expression) → Reads (joining j) s e → Reads (below j) u f → Reads (joining j) (s ++ (mark j ∷ u)) (join j e f)
 unfolding bind starts rest
 reads-also j s u e f p q r z =
     let w = stops j f r z in

@@ -7,7 +7,7 @@ use Prim.Native.String.{String, [] as []ₛ, _∷_ as _∷ₛ_}
 use Prim.Native.Char.{code}
 use Rattle.expression.specs.declared.Range.{Range}
 use Rattle.expression.specs.declared.Upper.the-variants.{Endless, UpTo}
-use Rattle.expression.specs.Expression.{Expression, epsilon, high, low, union, intersection, concatenation, star, band}
+use Rattle.expression.specs.Expression.{Expression, epsilon, High, Low, literal, Union, Intersection, Concatenation, join, Star, Band, unary}
 use Rattle.expression.specs.Grammar.{Form, alternative}
 use Rattle.expression.specs.Descent.{Got, no, yes, branch, bind, starts, rest, expect, ranged, digits, number, upper, limits, marks, bars, joining, read, height, descent}
 use Rattle.expression.proofs.Text.{false-true}
@@ -36,17 +36,17 @@ unfolding leftover
 none s h e f = false-true (sym (ap leftover (whole-complete f)) ∙ h)
 
 abbrev a : Expression
-a = high 0
+a = literal High 0
 
 abbrev within : ℕ → ℕ → Range
 within lo hi = record { lo = lo; hi = UpTo hi }
 
 -- Stars and bands are applied left to right, joins group to the left and bind as the grammar says, brackets add nothing.
-pub drills : Is "_" epsilon × Is "p" (high 15) × Is "!p" (low 15) × Is "a**" (star (star a)) × Is "a*{1,2}*" (star (band (within 1 2) (star a)))
-    × Is "a.b|c&d" (union (concatenation a (high 1)) (intersection (high 2) (high 3))) × Is "a.b.c" (concatenation (concatenation a (high 1)) (high 2))
-    × Is "a|b|c" (union (union a (high 1)) (high 2)) × Is "a.(b.c)" (concatenation a (concatenation (high 1) (high 2)))
-    × Is "(a|!a)*" (star (union a (low 0))) × Is "a{0,}" (band (record { lo = 0; hi = Endless }) a) × Is "(a{2,2})*" (star (band (within 2 2) a))
-    × Is "((a))" a × Is "a{10,205}" (band (within 10 205) a)
+pub drills : Is "_" epsilon × Is "p" (literal High 15) × Is "!p" (literal Low 15) × Is "a**" (unary Star (unary Star a)) × Is "a*{1,2}*" (unary Star (unary (Band (within 1 2)) (unary Star a)))
+    × Is "a.b|c&d" (join Union (join Concatenation a (literal High 1)) (join Intersection (literal High 2) (literal High 3))) × Is "a.b.c" (join Concatenation (join Concatenation a (literal High 1)) (literal High 2))
+    × Is "a|b|c" (join Union (join Union a (literal High 1)) (literal High 2)) × Is "a.(b.c)" (join Concatenation a (join Concatenation (literal High 1) (literal High 2)))
+    × Is "(a|!a)*" (unary Star (join Union a (literal Low 0))) × Is "a{0,}" (unary (Band (record { lo = 0; hi = Endless })) a) × Is "(a{2,2})*" (unary Star (unary (Band (within 2 2)) a))
+    × Is "((a))" a × Is "a{10,205}" (unary (Band (within 10 205)) a)
 unfolding descent read height branch bind starts rest expect ranged digits number upper limits marks
 drills = (
   whole-sound _ _ refl,

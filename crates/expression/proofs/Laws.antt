@@ -8,19 +8,15 @@ use lib.ListN.{length}
 use Rattle.expression.specs.declared.Range.{Range}
 use Rattle.expression.specs.declared.Upper.{Upper}
 use Rattle.expression.specs.declared.Upper.the-variants.{Endless, UpTo}
-use Rattle.expression.specs.Expression.{Expression, epsilon, high, low, union, intersection, concatenation, star, band, depth, letters, ranges}
+use Rattle.expression.specs.Expression.{Expression, epsilon, literal, join, Star, Band, unary, depth, letters, ranges}
 use Rattle.expression.specs.Refusal.{Wrong, wrong-length, wrong-letter, wrong-range, too-deep, Refused, Accepted}
 use Rattle.expression.specs.Stored.{
   nodeAt,
   Stored,
   stored-epsilon,
-  stored-high,
-  stored-low,
-  stored-union,
-  stored-intersection,
-  stored-concatenation,
-  stored-star,
-  stored-band,
+  stored-literal,
+  stored-join,
+  stored-unary,
 }
 use Rattle.expression.specs.Planted.{Planted, Operands}
 use Rattle.expression.proofs.Complete.{unique}
@@ -65,13 +61,9 @@ root-planted {channels = channels} {e = e} p s =
 depth-some : (e : Expression) → 0 < depth e
 unfolding depth
 depth-some epsilon = omega arith
-depth-some (high k) = omega arith
-depth-some (low k) = omega arith
-depth-some (union e f) = omega arith
-depth-some (intersection e f) = omega arith
-depth-some (concatenation e f) = omega arith
-depth-some (star e) = omega arith
-depth-some (band r e) = omega arith
+depth-some (literal s k) = omega arith
+depth-some (join j e f) = omega arith
+depth-some (unary u e) = omega arith
 
 -- Where a node is planted, some depth is left.
 pub planted-some : {ns : List ℕ} {channels n d : ℕ} {e : Expression} → Planted ns channels n d e → 0 < d
@@ -94,13 +86,10 @@ made : {ns : List ℕ} {channels n d : ℕ} {e : Expression} → Stored ns n e �
     → ((r : Range) → List·Memᴰ r (ranges e) → Wrong r → ⊥) → Operands ns channels (d - 1) e (nodeAt ns n)
 unfolding depth letters ranges
 made (stored-epsilon w) h k r = rw w refl
-made (stored-high w) h k r = rw w (refl, k _ (List·Memᴰ·head refl))
-made (stored-low w) h k r = rw w (refl, k _ (List·Memᴰ·head refl))
-made (stored-union {e = f} {f = g} w a b x y) h k r = let t = two f g x y h k r in rw w (f, g, refl, t .0, t .1)
-made (stored-intersection {e = f} {f = g} w a b x y) h k r = let t = two f g x y h k r in rw w (f, g, refl, t .0, t .1)
-made (stored-concatenation {e = f} {f = g} w a b x y) h k r = let t = two f g x y h k r in rw w (f, g, refl, t .0, t .1)
-made (stored-star {e = f} w a x) h k r = rw w (f, refl, one f x h k r)
-made (stored-band {r = q} {e = f} w a x) h k r = rw w (f, refl, r q (List·Memᴰ·head refl), one f x h k (λ c m. r c (List·Memᴰ·tail m)))
+made (stored-literal w) h k r = rw w (refl, k _ (List·Memᴰ·head refl))
+made (stored-join {e = f} {f = g} w a b x y) h k r = let t = two f g x y h k r in rw w (f, g, refl, t .0, t .1)
+made (stored-unary {u = Star} {e = f} w a x) h k r = rw w (f, refl, tt, one f x h k r)
+made (stored-unary {u = Band q} {e = f} w a x) h k r = rw w (f, refl, r q (List·Memᴰ·head refl), one f x h k (λ c m. r c (List·Memᴰ·tail m)))
 
 -- The operands of a planted node are planted, with a depth of one less left.
 pub operands : {ns : List ℕ} {channels n d : ℕ} {e : Expression} → Planted ns channels n d e → Operands ns channels (d - 1) e (nodeAt ns n)

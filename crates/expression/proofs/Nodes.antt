@@ -12,13 +12,9 @@ use Rattle.expression.specs.Stored.{
   nodeAt,
   Stored,
   stored-epsilon,
-  stored-high,
-  stored-low,
-  stored-union,
-  stored-intersection,
-  stored-concatenation,
-  stored-star,
-  stored-band,
+  stored-literal,
+  stored-join,
+  stored-unary,
 }
 use Rattle.expression.specs.Readers.{Kept, Placed}
 
@@ -35,13 +31,9 @@ node-keep n h k = rw (k .kept (n * 4) (omega arith), k .kept (n * 4 + 1) (omega 
 -- what is stored stays, as long as the words up to its root do
 pub stored-keep : {m : ℕ} {ns ns' : List ℕ} {n : ℕ} {e : Expression} → n * 4 + 4 ≤ m → Kept m ns ns' → Stored ns n e → Stored ns' n e
 stored-keep h k (stored-epsilon w) = stored-epsilon (node-keep _ h k ∙ w)
-stored-keep h k (stored-high w) = stored-high (node-keep _ h k ∙ w)
-stored-keep h k (stored-low w) = stored-low (node-keep _ h k ∙ w)
-stored-keep h k (stored-union w a b x y) = stored-union (node-keep _ h k ∙ w) a b (stored-keep (omega arith) k x) (stored-keep (omega arith) k y)
-stored-keep h k (stored-intersection w a b x y) = stored-intersection (node-keep _ h k ∙ w) a b (stored-keep (omega arith) k x) (stored-keep (omega arith) k y)
-stored-keep h k (stored-concatenation w a b x y) = stored-concatenation (node-keep _ h k ∙ w) a b (stored-keep (omega arith) k x) (stored-keep (omega arith) k y)
-stored-keep h k (stored-star w a x) = stored-star (node-keep _ h k ∙ w) a (stored-keep (omega arith) k x)
-stored-keep h k (stored-band w a x) = stored-band (node-keep _ h k ∙ w) a (stored-keep (omega arith) k x)
+stored-keep h k (stored-literal w) = stored-literal (node-keep _ h k ∙ w)
+stored-keep h k (stored-join w a b x y) = stored-join (node-keep _ h k ∙ w) a b (stored-keep (omega arith) k x) (stored-keep (omega arith) k y)
+stored-keep h k (stored-unary w a x) = stored-unary (node-keep _ h k ∙ w) a (stored-keep (omega arith) k x)
 
 -- the four words of node n, written one after the other
 pub stores : (ns : List ℕ) {i n : ℕ} (op x y z : ℕ) {node : Node} → i ≡ n → n * 4 + 4 ≤ length ns → decoded op x y z ≡ node

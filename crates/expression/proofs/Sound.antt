@@ -9,7 +9,7 @@ use borrow.Author.Tests.{ltb-true, ltb-false}
 use Rattle.expression.specs.declared.Range.{Range}
 use Rattle.expression.specs.declared.Upper.{Upper}
 use Rattle.expression.specs.declared.Upper.the-variants.{UpTo}
-use Rattle.expression.specs.Expression.{Expression, high, low, star, band}
+use Rattle.expression.specs.Expression.{Expression, High, Low, literal, join, Star, Band, unary}
 use Rattle.expression.specs.Grammar.{
   Number,
   digit,
@@ -38,7 +38,7 @@ use Rattle.expression.specs.Grammar.{
   exclamation,
   brackets,
 }
-use Rattle.expression.specs.Descent.{yes, rest, expect, ranged, digits, number, upper, limits, marks, lettered, Join, bars, ampersands, dots, mark, joined, Rank, joining, repeating, single, below, read, joins}
+use Rattle.expression.specs.Descent.{yes, rest, expect, ranged, digits, number, upper, limits, marks, lettered, Join, bars, ampersands, dots, mark, Rank, joining, repeating, single, below, read, joins}
 use Rattle.expression.proofs.Text.{no-yes, yes-text, yes-value, bind-yes, branch-split, starts-is}
 
 -- the grammar's level of a rank
@@ -56,7 +56,7 @@ alone ampersands f = sequence-alone f
 alone dots f = repeat-alone f
 
 pub also : (j : Join) {s u : List ℕ} {e f : Expression} → Form (level (joining j)) s e → Form (level (below j)) u f
-    → Form (level (joining j)) (s ++ (mark j ∷ u)) (joined j e f)
+    → Form (level (joining j)) (s ++ (mark j ∷ u)) (join j e f)
 also bars f g = bar f g
 also ampersands f g = ampersand f g
 also dots f g = dot f g
@@ -182,13 +182,13 @@ marks-sound zero w t s u r e f = absurd (no-yes e)
 marks-sound (suc n) w t s u r e f =
     ⊎-elim
     (λ p.
-    let k = marks-sound n (w ++ (42 ∷ [])) (star t) (rest s) u r (p .1) (asterisk f) in
+    let k = marks-sound n (w ++ (42 ∷ [])) (unary Star t) (rest s) u r (p .1) (asterisk f) in
     (42 ∷ k .0, starts-is 42 s (p .0) ∙ ap (λ (x : List ℕ). 42 ∷ x) (k .1), rw (← append-assoc w (42 ∷ []) (k .0)) (k .2)))
     (λ p. ⊎-elim
     (λ q.
     let b = bind-yes _ _ (q .1) in
     let h = limits-sound (rest s) (b .0) (b .1) (b .2) in
-    let k = marks-sound n (w ++ (123 ∷ (h .0 ++ (125 ∷ [])))) (band (b .0) t) (b .1) u r (b .3) (braces f (h .2)) in (
+    let k = marks-sound n (w ++ (123 ∷ (h .0 ++ (125 ∷ [])))) (unary (Band (b .0)) t) (b .1) u r (b .3) (braces f (h .2)) in (
       (123 ∷ (h .0 ++ (125 ∷ []))) ++ k .0,
       starts-is 123 s (q .0) ∙ ap (λ (x : List ℕ). 123 ∷ x) (h .1 ∙ ap (λ (x : List ℕ). h .0 ++ (125 ∷ x)) (k .1) ∙ simp append-assoc),
       rw (← append-assoc w (123 ∷ (h .0 ++ (125 ∷ []))) (k .0)) (k .2),
@@ -230,7 +230,7 @@ mutual
         subst (λ (x : Expression). Form primary (95 ∷ []) x) (yes-value (w .1)) underline,
       ))
       (λ w. ⊎-elim
-      (λ x. let h = lettered-sound (rest s) t r low (33 ∷ []) (λ k l. exclamation l) (x .1) in (h .0, starts-is 33 s (x .0) ∙ h .1, h .2))
+      (λ x. let h = lettered-sound (rest s) t r (literal Low) (33 ∷ []) (λ k l. exclamation l) (x .1) in (h .0, starts-is 33 s (x .0) ∙ h .1, h .2))
       (λ x. ⊎-elim
       (λ v.
       let b = bind-yes _ _ (v .1) in
@@ -240,7 +240,7 @@ mutual
         starts-is 40 s (v .0) ∙ ap (λ (y : List ℕ). 40 ∷ y) (h .1 ∙ ap (λ (y : List ℕ). h .0 ++ y) (k .1) ∙ sym (append-assoc (h .0) (41 ∷ []) r)),
         subst (λ (y : Expression). Form primary (40 ∷ (h .0 ++ (41 ∷ []))) y) (k .0) (brackets (h .2)),
       ))
-      (λ v. lettered-sound s t r high [] (λ k l. letter l) (v .1))
+      (λ v. lettered-sound s t r (literal High) [] (λ k l. letter l) (v .1))
       (branch-split _ _ _ (x .1)))
       (branch-split _ _ _ (w .1)))
       (branch-split _ _ _ e)
@@ -253,7 +253,7 @@ mutual
       (λ p.
       let b = bind-yes _ _ (p .1) in
       let h = sound n (below j) (rest s) (b .0) (b .1) (b .2) in
-      let k = joins-sound n j (w ++ (mark j ∷ h .0)) (joined j t (b .0)) (b .1) u r (b .3) (also j f (h .2)) in (
+      let k = joins-sound n j (w ++ (mark j ∷ h .0)) (join j t (b .0)) (b .1) u r (b .3) (also j f (h .2)) in (
         (mark j ∷ h .0) ++ k .0,
         starts-is (mark j) s (p .0) ∙ ap (λ (x : List ℕ). mark j ∷ x) (h .1 ∙ ap (λ (x : List ℕ). h .0 ++ x) (k .1) ∙ sym (append-assoc (h .0) (k .0) r)),
         rw (← append-assoc w (mark j ∷ h .0) (k .0)) (k .2),

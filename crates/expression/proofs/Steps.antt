@@ -5,7 +5,7 @@ use mathlib.Core.List.{List}
 use Prim.Native.Nat.{ℕ, zero, suc, _+_, _*_, _<_, _≤_}
 use native.Mathlib.Omega.{arith}
 use lib.ListN.{length}
-use Rattle.expression.specs.Expression.{Expression, epsilon, high, low, star, band}
+use Rattle.expression.specs.Expression.{Expression, epsilon, High, Low, literal, join, Star, Band, unary}
 use Rattle.expression.specs.Descent.{
   Got,
   no,
@@ -23,7 +23,6 @@ use Rattle.expression.specs.Descent.{
   ampersands,
   dots,
   mark,
-  joined,
   Rank,
   joining,
   repeating,
@@ -55,11 +54,11 @@ unfolding marks
 marks-same zero m e s h k = absurd (omega arith)
 marks-same (suc n) zero e s h k = absurd (omega arith)
 marks-same (suc n) (suc m) e s h k =
-    branch-same _ _ _ _ _ (λ w. let f = starts-shorter 42 s w in marks-same n m (star e) (rest s) (omega arith) (omega arith))
+    branch-same _ _ _ _ _ (λ w. let f = starts-shorter 42 s w in marks-same n m (unary Star e) (rest s) (omega arith) (omega arith))
     (branch-same _ _ _ _ _
     (λ w.
     let f = starts-shorter 123 s w in
-    bind-same (limits (rest s)) _ _ refl (λ x r g. let d = limits-shorter (rest s) x r g in marks-same n m (band x e) r (omega arith) (omega arith)))
+    bind-same (limits (rest s)) _ _ refl (λ x r g. let d = limits-shorter (rest s) x r g in marks-same n m (unary (Band x) e) r (omega arith) (omega arith)))
     refl)
 
 below-height : (j : Join) → height (joining j) ≡ height (below j) + 1
@@ -119,7 +118,7 @@ mutual
       let b = below-height j in
       let c = height-low j in
       bind-same _ _ _ (same n m (below j) (rest s) (omega arith) (omega arith))
-      (λ f r g. let i = shorter n (below j) (rest s) f r g in joins-same n m j (joined j e f) r (omega arith) (omega arith)))
+      (λ f r g. let i = shorter n (below j) (rest s) f r g in joins-same n m j (join j e f) r (omega arith) (omega arith)))
       refl
 
 -- the equations, by which the code's proofs go
@@ -139,8 +138,8 @@ repeating-is s = same (need repeating s) (suc (need single s)) repeating s (omeg
 pub single-is : (s : List ℕ)
     → descent single s
     ≡ branch (starts 95 s) (λ _. yes epsilon (rest s))
-    (λ _. branch (starts 33 s) (λ _. lettered low (rest s))
-    (λ _. branch (starts 40 s) (λ _. bind (descent (joining bars) (rest s)) (λ e r. expect 41 e r)) (λ _. lettered high s)))
+    (λ _. branch (starts 33 s) (λ _. lettered (literal Low) (rest s))
+    (λ _. branch (starts 40 s) (λ _. bind (descent (joining bars) (rest s)) (λ e r. expect 41 e r)) (λ _. lettered (literal High) s)))
 unfolding read height descent
 single-is s =
     same (need single s) (suc (length s * 8)) single s (omega arith) (omega arith)
@@ -153,7 +152,7 @@ single-is s =
     refl))
 
 joins-is : (j : Join) (e : Expression) (s : List ℕ)
-    → joinsAfter j e s ≡ branch (starts (mark j) s) (λ _. bind (descent (below j) (rest s)) (λ f r. joinsAfter j (joined j e f) r)) (λ _. yes e s)
+    → joinsAfter j e s ≡ branch (starts (mark j) s) (λ _. bind (descent (below j) (rest s)) (λ f r. joinsAfter j (join j e f) r)) (λ _. yes e s)
 unfolding read descent joinsAfter
 joins-is j e s =
     joins-same (length s * 8 + 1) (suc (length s * 8)) j e s (omega arith) (omega arith)
@@ -165,26 +164,26 @@ joins-is j e s =
     bind-same _ _ _ (same (length s * 8) (need (below j) (rest s)) (below j) (rest s) (omega arith) (omega arith))
     (λ f r g.
     let i = shorter (length s * 8) (below j) (rest s) f r g in
-    joins-same (length s * 8) (length r * 8 + 1) j (joined j e f) r (omega arith) (omega arith)))
+    joins-same (length s * 8) (length r * 8 + 1) j (join j e f) r (omega arith) (omega arith)))
     refl
 
 marks-is : (e : Expression) (s : List ℕ)
     → marksAfter e s
-    ≡ branch (starts 42 s) (λ _. marksAfter (star e) (rest s))
-    (λ _. branch (starts 123 s) (λ _. bind (limits (rest s)) (λ x r. marksAfter (band x e) r)) (λ _. yes e s))
+    ≡ branch (starts 42 s) (λ _. marksAfter (unary Star e) (rest s))
+    (λ _. branch (starts 123 s) (λ _. bind (limits (rest s)) (λ x r. marksAfter (unary (Band x) e) r)) (λ _. yes e s))
 unfolding marks marksAfter
 marks-is e s =
     branch-same _ _ _ _ _
-    (λ w. let f = starts-shorter 42 s w in marks-same (length s) (suc (length (rest s))) (star e) (rest s) (omega arith) (omega arith))
+    (λ w. let f = starts-shorter 42 s w in marks-same (length s) (suc (length (rest s))) (unary Star e) (rest s) (omega arith) (omega arith))
     (branch-same _ _ _ _ _
     (λ w.
     let f = starts-shorter 123 s w in
     bind-same (limits (rest s)) _ _ refl
-    (λ x r g. let d = limits-shorter (rest s) x r g in marks-same (length s) (suc (length r)) (band x e) r (omega arith) (omega arith)))
+    (λ x r g. let d = limits-shorter (rest s) x r g in marks-same (length s) (suc (length r)) (unary (Band x) e) r (omega arith) (omega arith)))
     refl)
 
 module _ (j : Join) (e : Expression) (s : List ℕ) where
-  pub joins-on : starts (mark j) s ≡ true → joinsAfter j e s ≡ bind (descent (below j) (rest s)) (λ f r. joinsAfter j (joined j e f) r)
+  pub joins-on : starts (mark j) s ≡ true → joinsAfter j e s ≡ bind (descent (below j) (rest s)) (λ f r. joinsAfter j (join j e f) r)
   unfolding branch
   joins-on h = joins-is j e s ∙ rw h
 
@@ -193,11 +192,11 @@ module _ (j : Join) (e : Expression) (s : List ℕ) where
   joins-off h = joins-is j e s ∙ rw h
 
 module _ (e : Expression) (s : List ℕ) where
-  pub marks-star : starts 42 s ≡ true → marksAfter e s ≡ marksAfter (star e) (rest s)
+  pub marks-star : starts 42 s ≡ true → marksAfter e s ≡ marksAfter (unary Star e) (rest s)
   unfolding branch
   marks-star h = marks-is e s ∙ rw h
 
-  pub marks-band : starts 42 s ≡ false → starts 123 s ≡ true → marksAfter e s ≡ bind (limits (rest s)) (λ x r. marksAfter (band x e) r)
+  pub marks-band : starts 42 s ≡ false → starts 123 s ≡ true → marksAfter e s ≡ bind (limits (rest s)) (λ x r. marksAfter (unary (Band x) e) r)
   unfolding branch
   marks-band h k = marks-is e s ∙ rw (h, k)
 

@@ -2,7 +2,7 @@
 use mathlib.Core.Path.{_≡_, refl, sym, ap, _∙_}
 use mathlib.Core.Bool.{Bool, true, false, _||_}
 use mathlib.Core.List.{List}
-use Prim.Native.Nat.{ℕ, suc, _+_, _*_, _<_, _≤_, max}
+use Prim.Native.Nat.{ℕ, suc, _+_, _*_, _<_, _≤_}
 use native.Mathlib.Omega.{arith}
 use lib.ListN.{length, drop}
 use Rattle.expression.specs.declared.Range.{Range}
@@ -10,21 +10,17 @@ use Rattle.expression.specs.declared.Tree.{Tree}
 use Rattle.expression.specs.declared.Read.{Read}
 use Rattle.expression.specs.declared.Read.the-variants.{Part, Stop}
 use Rattle.expression.specs.declared.Node.{Node}
-use Rattle.expression.specs.declared.Node.the-variants.{Epsilon, High, Low, Union, Intersection, Concatenation, Star, Band}
-use Rattle.expression.specs.Expression.{Expression, epsilon, high, low, star, band, depth}
+use Rattle.expression.specs.declared.Node.the-variants.{Epsilon, Literal, Joined, Applied}
+use Rattle.expression.specs.Expression.{Expression, epsilon, High, Low, literal, join, Star, Band, unary, depth}
 use Rattle.expression.specs.Stored.{
   nodeAt,
   Stored,
   stored-epsilon,
-  stored-high,
-  stored-low,
-  stored-union,
-  stored-intersection,
-  stored-concatenation,
-  stored-star,
-  stored-band,
+  stored-literal,
+  stored-join,
+  stored-unary,
 }
-use Rattle.expression.specs.Descent.{Got, no, yes, branch, bind, starts, expect, ranged, limits, Join, bars, ampersands, dots, mark, joined, Rank, joining, repeating, single, below, descent, joinsAfter, marksAfter}
+use Rattle.expression.specs.Descent.{Got, no, yes, branch, bind, starts, expect, ranged, limits, Join, bars, mark, Rank, joining, repeating, single, below, descent, joinsAfter, marksAfter}
 use Rattle.expression.specs.Readers.{capped, cappedRange, wrongRange, width, wrong, Kept, Placed, over, beside, around, nothing, Reached, ReadAs, Got-at, Offset-at, ClosedAs}
 use Rattle.expression.proofs.Text.{add-two, rest-drop}
 use Rattle.expression.proofs.Steps.{joining-is, repeating-is, single-is, joins-on, joins-off, marks-star, marks-band, marks-off}
@@ -78,27 +74,6 @@ again s k h =
 
 -- JOINS
 
--- the node of a join
-abbrev pub joinNode : Join → ℕ → ℕ → Node
-joinNode bars i k = Union i k
-joinNode ampersands i k = Intersection i k
-joinNode dots i k = Concatenation i k
-
-stored-join : (j : Join) {ns : List ℕ} {n i k : ℕ} (e f : Expression)
-    → nodeAt ns n ≡ joinNode j i k → i < n → k < n → Stored ns i (capped e) → Stored ns k (capped f) → Stored ns n (capped (joined j e f))
-unfolding capped
-stored-join bars e f w a b x y = stored-union w a b x y
-stored-join ampersands e f w a b x y = stored-intersection w a b x y
-stored-join dots e f w a b x y = stored-concatenation w a b x y
-
--- the three sums of a joined expression
-sums : (j : Join) (e f : Expression)
-    → (depth (joined j e f) ≡ suc (max (depth e) (depth f))) × (width (joined j e f) ≡ max (width e) (width f)) × (wrong (joined j e f) ≡ (wrong e || wrong f))
-unfolding depth width wrong
-sums bars e f = (refl, refl, refl)
-sums ampersands e f = (refl, refl, refl)
-sums dots e f = (refl, refl, refl)
-
 module _ (j : Join) where
   pub joins-begin : {text before ns : List ℕ} {at used : ℕ} {tree : Tree}
       → Reached (below j) yes text at used before ns tree → Reached (joining j) (joinsAfter j) text at used ns ns tree
@@ -115,7 +90,7 @@ module _ (j : Join) where
 
     -- the mark of the join follows
     module _ (m : starts (mark j) (drop (tree .at) text) ≡ true) (l : tree .at < length text) where
-      goes : descent (joining j) (drop at text) ≡ bind (descent (below j) (drop (tree .at + 1) text)) (λ f r. joinsAfter j (joined j (s .e) f) r)
+      goes : descent (joining j) (drop at text) ≡ bind (descent (below j) (drop (tree .at + 1) text)) (λ f r. joinsAfter j (join j (s .e) f) r)
       goes = s .read ∙ joins-on j (s .e) (drop (tree .at) text) m ∙ rw (rest-drop text (tree .at) l)
 
       pub joins-stop : descent (below j) (drop (tree .at + 1) text) ≡ no → descent (joining j) (drop at text) ≡ no
@@ -125,25 +100,24 @@ module _ (j : Join) where
       -- one more operand, and the node over both
       pub joins-on-to : {ns' ns'' : List ℕ} {right sum new : Tree}
           → Reached (below j) yes text (tree .at + 1) (tree .used) ns ns' right
-          → sum ≡ beside tree right → new ≡ over sum → Placed (sum .used) (joinNode j (tree .root) (right .root)) ns' ns''
+          → sum ≡ beside tree right → new ≡ over sum → Placed (sum .used) (Joined j (tree .root) (right .root)) ns' ns''
           → Reached (joining j) (joinsAfter j) text at used before ns'' new
-      unfolding bind
+      unfolding bind capped depth width wrong
       joins-on-to {ns' = ns'} {ns'' = ns''} {right = right} r sum-is is p' =
-          let p : Placed (right .used) (joinNode j (tree .root) (right .root)) ns' ns'' = rw sum-is at p' in
-          let all = sums j (s .e) (r .e) in
+          let p : Placed (right .used) (Joined j (tree .root) (right .root)) ns' ns'' = rw sum-is at p' in
           let left : tree .root * 4 + 4 ≤ tree .used * 4 = omega (arith, s .rooted) in
           let rightly : right .root * 4 + 4 ≤ right .used * 4 = omega (arith, r .rooted) in
           let between : tree .used * 4 ≤ right .used * 4 = omega (arith, r .grown) in
-          adds (beside tree right) (joined j (s .e) (r .e)) (omega (arith, s .ahead, r .ahead)) (r .inside) (omega (arith, s .few, r .few))
+          adds (beside tree right) (join j (s .e) (r .e)) (omega (arith, s .ahead, r .ahead)) (r .inside) (omega (arith, s .few, r .few))
           (omega (arith, s .grown, r .grown)) (omega (arith, s .shallow, r .shallow, r .grown))
           (kept-trans (omega (arith, s .grown)) (s .kept) (r .kept))
           p
-          (stored-join j (s .e) (r .e) (p .placed) (omega (arith, s .rooted, r .grown)) (r .rooted)
+          (stored-join (p .placed) (omega (arith, s .rooted, r .grown)) (r .rooted)
           (stored-keep left (kept-trans between (r .kept) (p .others)) (s .stored))
           (stored-keep rightly (p .others) (r .stored)))
-          (all .0 ∙ rw (s .depth-is, r .depth-is))
-          (all .1 ∙ rw (s .width-is, r .width-is))
-          (all .2 ∙ rw (s .wrong-is, r .wrong-is))
+          (rw (s .depth-is, r .depth-is))
+          (rw (s .width-is, r .width-is))
+          (rw (s .wrong-is, r .wrong-is))
           (goes ∙ rw (r .read))
           (is ∙ ap over sum-is)
 
@@ -178,16 +152,16 @@ module _ {text before ns : List ℕ} {at used : ℕ} {tree : Tree} (s : Reached 
       (de ∙ rw (s .depth-is)) (wi ∙ rw (s .width-is)) (wr ∙ rw (s .wrong-is)) re (is ∙ ap over under-is)
 
   pub marks-star-on : {ns' : List ℕ} {under new : Tree} → starts 42 (drop (tree .at) text) ≡ true → tree .at < length text
-      → under ≡ around tree (tree .at + 1) false → new ≡ over under → Placed (under .used) (Star (tree .root)) ns ns'
+      → under ≡ around tree (tree .at + 1) false → new ≡ over under → Placed (under .used) (Applied Star (tree .root)) ns ns'
       → Reached repeating marksAfter text at used before ns' new
   unfolding capped depth width wrong
   marks-star-on m l u n p =
-      extends false (star (s .e)) (omega arith) (omega arith) u n p (λ a b c. stored-star a b c) refl refl refl
+      extends false (unary Star (s .e)) (omega arith) (omega arith) u n p (λ a b c. stored-unary a b c) refl refl refl
       (s .read ∙ marks-star (s .e) (drop (tree .at) text) m ∙ rw (rest-drop text (tree .at) l))
 
   -- a brace follows
   module _ (m : starts 42 (drop (tree .at) text) ≡ false) (m' : starts 123 (drop (tree .at) text) ≡ true) (l : tree .at < length text) where
-    goes-in : descent repeating (drop at text) ≡ bind (limits (drop (tree .at + 1) text)) (λ x r. marksAfter (band x (s .e)) r)
+    goes-in : descent repeating (drop at text) ≡ bind (limits (drop (tree .at + 1) text)) (λ x r. marksAfter (unary (Band x) (s .e)) r)
     goes-in = s .read ∙ marks-band (s .e) (drop (tree .at) text) m m' ∙ rw (rest-drop text (tree .at) l)
 
     pub marks-band-stop : limits (drop (tree .at + 1) text) ≡ no → descent repeating (drop at text) ≡ no
@@ -195,11 +169,11 @@ module _ {text before ns : List ℕ} {at used : ℕ} {tree : Tree} (s : Reached 
     marks-band-stop e = goes-in ∙ rw e
 
     pub marks-band-on : {ns' : List ℕ} {under new : Tree} {b : ℕ} {r : Range} {w : Bool} → (x : Got-at limits cappedRange text (tree .at + 1) b r)
-        → w ≡ wrongRange (x .x) → under ≡ around tree b w → new ≡ over under → Placed (under .used) (Band (tree .root) r) ns ns'
+        → w ≡ wrongRange (x .x) → under ≡ around tree b w → new ≡ over under → Placed (under .used) (Applied (Band r) (tree .root)) ns ns'
         → Reached repeating marksAfter text at used before ns' new
     unfolding capped depth width wrong bind
     marks-band-on {w = w} x wr u n p =
-        extends w (band (x .x) (s .e)) (omega (arith, x .ahead)) (x .inside) u n p (λ a b c. stored-band (a ∙ ap (Band (tree .root)) (x .is)) b c) refl refl (rw wr)
+        extends w (unary (Band (x .x)) (s .e)) (omega (arith, x .ahead)) (x .inside) u n p (λ a b c. stored-unary (a ∙ ap (λ (q : Range). Applied (Band q) (tree .root)) (x .is)) b c) refl refl (rw wr)
         (goes-in ∙ rw (x .read))
 
 -- PRIMARIES
@@ -211,7 +185,7 @@ module _ (text : List ℕ) (at : ℕ) where
 
   -- no `_`, and `!`
   module _ (m : starts 95 (drop at text) ≡ false) (m' : starts 33 (drop at text) ≡ true) (l : at < length text) where
-    marked : descent single (drop at text) ≡ bind (ranged 97 16 (drop (at + 1) text)) (λ k r. yes (low k) r)
+    marked : descent single (drop at text) ≡ bind (ranged 97 16 (drop (at + 1) text)) (λ k r. yes (literal Low k) r)
     unfolding branch
     marked = single-is (drop at text) ∙ rw (m, m', rest-drop text at l)
 
@@ -255,7 +229,7 @@ module _ (text : List ℕ) (at : ℕ) where
 
     -- nor a bracket
     module _ (m'' : starts 40 (drop at text) ≡ false) where
-      plain : descent single (drop at text) ≡ bind (ranged 97 16 (drop at text)) (λ k r. yes (high k) r)
+      plain : descent single (drop at text) ≡ bind (ranged 97 16 (drop at text)) (λ k r. yes (literal High k) r)
       unfolding branch
       plain = single-is (drop at text) ∙ rw (m, m', m'')
 
@@ -277,13 +251,13 @@ module _ (text : List ℕ) (at : ℕ) where
     leaf-epsilon m l p = leaves epsilon (omega arith) (omega arith) p stored-epsilon refl refl refl (underlined m l)
 
     pub leaf-low : {k : ℕ} → starts 95 (drop at text) ≡ false → starts 33 (drop at text) ≡ true → at < length text → Offset-at 97 16 text (at + 1) k
-        → Placed used (Low k) ns ns' → Reached single yes text at used ns ns' (over (nothing (at + 2) used (k + 1)))
+        → Placed used (Literal Low k) ns ns' → Reached single yes text at used ns ns' (over (nothing (at + 2) used (k + 1)))
     unfolding capped depth width wrong bind
     leaf-low {k} m m' l o p =
-        leaves (low k) (omega arith) (omega (arith, o .inside)) p stored-low refl (omega arith) refl (marked m m' l ∙ rw (o .read, add-two at))
+        leaves (literal Low k) (omega arith) (omega (arith, o .inside)) p stored-literal refl (omega arith) refl (marked m m' l ∙ rw (o .read, add-two at))
 
     pub leaf-high : {k : ℕ} → starts 95 (drop at text) ≡ false → starts 33 (drop at text) ≡ false → starts 40 (drop at text) ≡ false → Offset-at 97 16 text at k
-        → Placed used (High k) ns ns' → Reached single yes text at used ns ns' (over (nothing (at + 1) used (k + 1)))
+        → Placed used (Literal High k) ns ns' → Reached single yes text at used ns ns' (over (nothing (at + 1) used (k + 1)))
     unfolding capped depth width wrong bind
     leaf-high {k} m m' m'' o p =
-        leaves (high k) (omega arith) (omega (arith, o .inside)) p stored-high refl (omega arith) refl (plain m m' m'' ∙ rw (o .read))
+        leaves (literal High k) (omega arith) (omega (arith, o .inside)) p stored-literal refl (omega arith) refl (plain m m' m'' ∙ rw (o .read))

@@ -8,7 +8,9 @@ use lib.ListN.{length}
 use Rattle.expression.specs.declared.Range.{Range}
 use Rattle.expression.specs.declared.Upper.{Upper}
 use Rattle.expression.specs.declared.Upper.the-variants.{Endless, UpTo}
-use Rattle.expression.specs.Expression.{Expression, epsilon, high, low, union, intersection, concatenation, star, band}
+pub use Rattle.expression.specs.declared.Join.{Join}
+pub use Rattle.expression.specs.declared.Join.the-variants.{Union as bars, Intersection as ampersands, Concatenation as dots}
+use Rattle.expression.specs.Expression.{Expression, epsilon, High, Low, literal, join, Star, Band, unary}
 
 -- nothing, or a value and the text after it
 pub data Got (A : Type 0) : Type 0 where
@@ -65,28 +67,17 @@ limits s = bind (number s) (λ n r. bind (expect 44 n r) (λ m q. bind (upper q)
 unfoldable pub marks : ℕ → Expression → List ℕ → Got Expression
 marks zero e s = no
 marks (suc n) e s =
-    branch (starts 42 s) (λ _. marks n (star e) (rest s))
-    (λ _. branch (starts 123 s) (λ _. bind (limits (rest s)) (λ x r. marks n (band x e) r)) (λ _. yes e s))
+    branch (starts 42 s) (λ _. marks n (unary Star e) (rest s))
+    (λ _. branch (starts 123 s) (λ _. bind (limits (rest s)) (λ x r. marks n (unary (Band x) e) r)) (λ _. yes e s))
 
 -- a letter, as its channel
 abbrev pub lettered : (ℕ → Expression) → List ℕ → Got Expression
 lettered f s = bind (ranged 97 16 s) (λ k r. yes (f k) r)
 
--- the three joins
-pub data Join : Type 0 where
-  bars : Join
-  ampersands : Join
-  dots : Join
-
 abbrev pub mark : Join → ℕ
 mark bars = 124
 mark ampersands = 38
 mark dots = 46
-
-abbrev pub joined : Join → Expression → Expression → Expression
-joined bars = union
-joined ampersands = intersection
-joined dots = concatenation
 
 -- the grammar's levels, the three that join as one
 pub data Rank : Type 0 where
@@ -108,12 +99,12 @@ unfoldable mutual
   read (suc n) repeating s = bind (read n single s) (λ e r. marks (suc (length r)) e r)
   read (suc n) single s =
       branch (starts 95 s) (λ _. yes epsilon (rest s))
-      (λ _. branch (starts 33 s) (λ _. lettered low (rest s))
-      (λ _. branch (starts 40 s) (λ _. bind (read n (joining bars) (rest s)) (λ e r. expect 41 e r)) (λ _. lettered high s)))
+      (λ _. branch (starts 33 s) (λ _. lettered (literal Low) (rest s))
+      (λ _. branch (starts 40 s) (λ _. bind (read n (joining bars) (rest s)) (λ e r. expect 41 e r)) (λ _. lettered (literal High) s)))
 
   pub joins : ℕ → Join → Expression → List ℕ → Got Expression
   joins zero j e s = no
-  joins (suc n) j e s = branch (starts (mark j) s) (λ _. bind (read n (below j) (rest s)) (λ f r. joins n j (joined j e f) r)) (λ _. yes e s)
+  joins (suc n) j e s = branch (starts (mark j) s) (λ _. bind (read n (below j) (rest s)) (λ f r. joins n j (join j e f) r)) (λ _. yes e s)
 
 unfoldable pub height : Rank → ℕ
 height (joining bars) = 5

@@ -2,55 +2,42 @@
 use Prim.Native.Nat.{ℕ, suc, max}
 use mathlib.Core.List.{List, [], _∷_, _++_}
 use Rattle.expression.specs.declared.Range.{Range}
+pub use Rattle.expression.specs.declared.Sign.{Sign}
+pub use Rattle.expression.specs.declared.Sign.the-variants.{High, Low}
+pub use Rattle.expression.specs.declared.Join.{Join}
+pub use Rattle.expression.specs.declared.Join.the-variants.{Union, Intersection, Concatenation}
+pub use Rattle.expression.specs.declared.Unary.{Unary}
+pub use Rattle.expression.specs.declared.Unary.the-variants.{Star, Band}
 
 -- A drill. A letter is its channel's number, `a` being 0. A range is the code's own struct; here its numbers may have any size.
 pub data Expression : Type 0 where
   -- `_`
   epsilon : Expression
-  -- a letter
-  high : ℕ → Expression
-  -- `!` and a letter
-  low : ℕ → Expression
-  -- `|`
-  union : Expression → Expression → Expression
-  -- `&`
-  intersection : Expression → Expression → Expression
-  -- `.`
-  concatenation : Expression → Expression → Expression
-  -- `*`
-  star : Expression → Expression
-  -- `{lo,hi}`
-  band : Range → Expression → Expression
+  -- a letter, and `!` and a letter
+  literal : Sign → ℕ → Expression
+  -- `|`, `&` and `.`
+  join : Join → Expression → Expression → Expression
+  -- `*` and `{lo,hi}`
+  unary : Unary → Expression → Expression
 
 -- "a letter, `!` with its letter, or `_` has 1, an operator one more than its deepest operand"
 unfoldable pub depth : Expression → ℕ
 depth epsilon = 1
-depth (high k) = 1
-depth (low k) = 1
-depth (union e f) = suc (max (depth e) (depth f))
-depth (intersection e f) = suc (max (depth e) (depth f))
-depth (concatenation e f) = suc (max (depth e) (depth f))
-depth (star e) = suc (depth e)
-depth (band r e) = suc (depth e)
+depth (literal s k) = 1
+depth (join j e f) = suc (max (depth e) (depth f))
+depth (unary u e) = suc (depth e)
 
 -- the letters of a drill, from left to right
 unfoldable pub letters : Expression → List ℕ
 letters epsilon = []
-letters (high k) = k ∷ []
-letters (low k) = k ∷ []
-letters (union e f) = letters e ++ letters f
-letters (intersection e f) = letters e ++ letters f
-letters (concatenation e f) = letters e ++ letters f
-letters (star e) = letters e
-letters (band r e) = letters e
+letters (literal s k) = k ∷ []
+letters (join j e f) = letters e ++ letters f
+letters (unary u e) = letters e
 
 -- the ranges of a drill's bands
 unfoldable pub ranges : Expression → List Range
 ranges epsilon = []
-ranges (high k) = []
-ranges (low k) = []
-ranges (union e f) = ranges e ++ ranges f
-ranges (intersection e f) = ranges e ++ ranges f
-ranges (concatenation e f) = ranges e ++ ranges f
-ranges (star e) = ranges e
-ranges (band r e) = r ∷ ranges e
+ranges (literal s k) = []
+ranges (join j e f) = ranges e ++ ranges f
+ranges (unary Star e) = ranges e
+ranges (unary (Band r) e) = r ∷ ranges e

@@ -4,7 +4,7 @@ use Prim.Native.Nat.{ℕ, _+_, _*_, _<_}
 use mathlib.Core.List.{List, [], _∷_, _++_}
 use Rattle.expression.specs.declared.Range.{Range}
 use Rattle.expression.specs.declared.Upper.the-variants.{Endless, UpTo}
-use Rattle.expression.specs.Expression.{Expression, epsilon, high, low, union, intersection, concatenation, star, band}
+use Rattle.expression.specs.Expression.{Expression, epsilon, High, Low, literal, Union, Intersection, Concatenation, join, Star, Band, unary}
 
 -- "decimal, without a leading zero unless 0 itself": a digit goes after a number that is not 0
 pub data Number : List ℕ → ℕ → Type 0 where
@@ -27,19 +27,19 @@ pub data Level : Type 0 where
 pub data Form : Level → List ℕ → Expression → Type 0 where
   -- "An alternative is conjunctions joined by `|`."
   conjunction-alone : {s : List ℕ} {e : Expression} → Form conjunction s e → Form alternative s e
-  bar : {s u : List ℕ} {e f : Expression} → Form alternative s e → Form conjunction u f → Form alternative (s ++ (124 ∷ u)) (union e f)
+  bar : {s u : List ℕ} {e f : Expression} → Form alternative s e → Form conjunction u f → Form alternative (s ++ (124 ∷ u)) (join Union e f)
   -- "A conjunction is sequences joined by `&`."
   sequence-alone : {s : List ℕ} {e : Expression} → Form sequence s e → Form conjunction s e
-  ampersand : {s u : List ℕ} {e f : Expression} → Form conjunction s e → Form sequence u f → Form conjunction (s ++ (38 ∷ u)) (intersection e f)
+  ampersand : {s u : List ℕ} {e f : Expression} → Form conjunction s e → Form sequence u f → Form conjunction (s ++ (38 ∷ u)) (join Intersection e f)
   -- "A sequence is repeats joined by `.`."
   repeat-alone : {s : List ℕ} {e : Expression} → Form repeat s e → Form sequence s e
-  dot : {s u : List ℕ} {e f : Expression} → Form sequence s e → Form repeat u f → Form sequence (s ++ (46 ∷ u)) (concatenation e f)
+  dot : {s u : List ℕ} {e f : Expression} → Form sequence s e → Form repeat u f → Form sequence (s ++ (46 ∷ u)) (join Concatenation e f)
   -- "A repeat is a primary followed by any number of `*` and `{lo,hi}`, applied left to right."
   primary-alone : {s : List ℕ} {e : Expression} → Form primary s e → Form repeat s e
-  asterisk : {s : List ℕ} {e : Expression} → Form repeat s e → Form repeat (s ++ (42 ∷ [])) (star e)
-  braces : {s u : List ℕ} {e : Expression} {r : Range} → Form repeat s e → Limits u r → Form repeat (s ++ (123 ∷ (u ++ (125 ∷ [])))) (band r e)
+  asterisk : {s : List ℕ} {e : Expression} → Form repeat s e → Form repeat (s ++ (42 ∷ [])) (unary Star e)
+  braces : {s u : List ℕ} {e : Expression} {r : Range} → Form repeat s e → Limits u r → Form repeat (s ++ (123 ∷ (u ++ (125 ∷ [])))) (unary (Band r) e)
   -- "A primary is `_`, a letter `a` to `p`, `!` and a letter, or a whole alternative in round brackets."
   underline : Form primary (95 ∷ []) epsilon
-  letter : {k : ℕ} → k < 16 → Form primary ((97 + k) ∷ []) (high k)
-  exclamation : {k : ℕ} → k < 16 → Form primary (33 ∷ (97 + k) ∷ []) (low k)
+  letter : {k : ℕ} → k < 16 → Form primary ((97 + k) ∷ []) (literal High k)
+  exclamation : {k : ℕ} → k < 16 → Form primary (33 ∷ (97 + k) ∷ []) (literal Low k)
   brackets : {s : List ℕ} {e : Expression} → Form alternative s e → Form primary (40 ∷ (s ++ (41 ∷ []))) e

@@ -4,8 +4,8 @@ use mathlib.Core.List.{List, List·Memᴰ}
 use Prim.Native.Nat.{ℕ, _<_, _≤_}
 use Rattle.expression.specs.declared.Range.{Range}
 use Rattle.expression.specs.declared.Node.{Node}
-use Rattle.expression.specs.declared.Node.the-variants.{Epsilon, High, Low, Union, Intersection, Concatenation, Star, Band}
-use Rattle.expression.specs.Expression.{Expression, epsilon, high, low, union, intersection, concatenation, star, band, depth, letters, ranges}
+use Rattle.expression.specs.declared.Node.the-variants.{Epsilon, Literal, Joined, Applied}
+use Rattle.expression.specs.Expression.{Expression, epsilon, literal, join, Unary, Star, Band, unary, depth, letters, ranges}
 use Rattle.expression.specs.Refusal.{Wrong}
 use Rattle.expression.specs.Stored.{Stored}
 
@@ -16,13 +16,14 @@ pub record Planted (ns : List ℕ) (channels n d : ℕ) (e : Expression) : Type 
   pub known : (k : ℕ) → List·Memᴰ k (letters e) → k < channels
   pub right : (r : Range) → List·Memᴰ r (ranges e) → Wrong r → ⊥
 
+-- the range of a band has passed check 7
+abbrev pub Right : Unary → Type 0
+Right Star = Unit {0}
+Right (Band r) = Wrong r → ⊥
+
 -- what a node says of its expression, its operands being no deeper than d
 abbrev pub Operands : List ℕ → ℕ → ℕ → Expression → Node → Type 0
 Operands ns channels d e Epsilon = e ≡ epsilon
-Operands ns channels d e (High k) = (e ≡ high k) × (k < channels)
-Operands ns channels d e (Low k) = (e ≡ low k) × (k < channels)
-Operands ns channels d e (Union i j) = (f : Expression) × (g : Expression) × (e ≡ union f g) × Planted ns channels i d f × Planted ns channels j d g
-Operands ns channels d e (Intersection i j) = (f : Expression) × (g : Expression) × (e ≡ intersection f g) × Planted ns channels i d f × Planted ns channels j d g
-Operands ns channels d e (Concatenation i j) = (f : Expression) × (g : Expression) × (e ≡ concatenation f g) × Planted ns channels i d f × Planted ns channels j d g
-Operands ns channels d e (Star i) = (f : Expression) × (e ≡ star f) × Planted ns channels i d f
-Operands ns channels d e (Band i r) = (f : Expression) × (e ≡ band r f) × (Wrong r → ⊥) × Planted ns channels i d f
+Operands ns channels d e (Literal s k) = (e ≡ literal s k) × (k < channels)
+Operands ns channels d e (Joined j i k) = (f : Expression) × (g : Expression) × (e ≡ join j f g) × Planted ns channels i d f × Planted ns channels k d g
+Operands ns channels d e (Applied u i) = (f : Expression) × (e ≡ unary u f) × Right u × Planted ns channels i d f

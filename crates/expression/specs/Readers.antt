@@ -18,7 +18,7 @@ use Rattle.expression.specs.declared.Braces.{Braces}
 use Rattle.expression.specs.declared.Braces.the-variants.{Limits, NoRange}
 use Rattle.expression.specs.declared.Offset.{Offset}
 use Rattle.expression.specs.declared.Offset.the-variants.{By, Outside}
-use Rattle.expression.specs.Expression.{Expression, epsilon, high, low, union, intersection, concatenation, star, band, depth}
+use Rattle.expression.specs.Expression.{Expression, epsilon, literal, join, Star, Band, unary, depth}
 use Rattle.expression.specs.Stored.{nodeAt, Stored}
 use Rattle.expression.specs.Descent.{Got, no, yes, starts, ranged, number, limits, Rank, descent}
 
@@ -36,24 +36,17 @@ cappedRange r = record { lo = cap (r .lo); hi = cappedUpper (r .hi) }
 -- the expression as it is stored
 unfoldable pub capped : Expression → Expression
 capped epsilon = epsilon
-capped (high k) = high k
-capped (low k) = low k
-capped (union e f) = union (capped e) (capped f)
-capped (intersection e f) = intersection (capped e) (capped f)
-capped (concatenation e f) = concatenation (capped e) (capped f)
-capped (star e) = star (capped e)
-capped (band r e) = band (cappedRange r) (capped e)
+capped (literal s k) = literal s k
+capped (join j e f) = join j (capped e) (capped f)
+capped (unary Star e) = unary Star (capped e)
+capped (unary (Band r) e) = unary (Band (cappedRange r)) (capped e)
 
 -- one more than the highest letter
 unfoldable pub width : Expression → ℕ
 width epsilon = 0
-width (high k) = suc k
-width (low k) = suc k
-width (union e f) = max (width e) (width f)
-width (intersection e f) = max (width e) (width f)
-width (concatenation e f) = max (width e) (width f)
-width (star e) = width e
-width (band r e) = width e
+width (literal s k) = suc k
+width (join j e f) = max (width e) (width f)
+width (unary u e) = width e
 
 abbrev pub wrongUpper : ℕ → Upper → Bool
 wrongUpper lo Endless = false
@@ -65,13 +58,10 @@ wrongRange r = ltb 1000000 (r .lo) || wrongUpper (r .lo) (r .hi)
 
 unfoldable pub wrong : Expression → Bool
 wrong epsilon = false
-wrong (high k) = false
-wrong (low k) = false
-wrong (union e f) = wrong e || wrong f
-wrong (intersection e f) = wrong e || wrong f
-wrong (concatenation e f) = wrong e || wrong f
-wrong (star e) = wrong e
-wrong (band r e) = wrongRange r || wrong e
+wrong (literal s k) = false
+wrong (join j e f) = wrong e || wrong f
+wrong (unary Star e) = wrong e
+wrong (unary (Band r) e) = wrongRange r || wrong e
 
 -- the first m words are as they were
 pub record Kept (m : ℕ) (before after : List ℕ) : Type 0 where

@@ -22,16 +22,31 @@ pub struct Range {
     pub hi: Upper,
 }
 
+// What a letter asks of its channel.
+pub enum Sign {
+    High,
+    Low,
+}
+
+// The joins: `|`, `&` and `.`.
+pub enum Join {
+    Union,
+    Intersection,
+    Concatenation,
+}
+
+// The operators with one operand: `*` and `{lo,hi}`.
+pub enum Unary {
+    Star,
+    Band(Range),
+}
+
 // A node, with the numbers of the nodes of its operands. A channel is 0 for `a`.
 pub enum Node {
     Epsilon,
-    High(u32),
-    Low(u32),
-    Union(u32, u32),
-    Intersection(u32, u32),
-    Concatenation(u32, u32),
-    Star(u32),
-    Band(u32, Range),
+    Literal(Sign, u32),
+    Joined(Join, u32, u32),
+    Applied(Unary, u32),
 }
 
 // The root of the tree, or the refusal.
@@ -115,25 +130,25 @@ fn node_of(op: u32, x: u32, y: u32, z: u32) -> Node
     ensures { λ r. ⌜ r ≡ decoded op x y z ⌝ }
 {
     match op {
-        1 => Node::High(x),
-        2 => Node::Low(x),
-        3 => Node::Union(x, y),
-        4 => Node::Intersection(x, y),
-        5 => Node::Concatenation(x, y),
-        6 => Node::Star(x),
-        7 => Node::Band(
-            x,
-            Range {
+        1 => Node::Literal(Sign::High, x),
+        2 => Node::Literal(Sign::Low, x),
+        3 => Node::Joined(Join::Union, x, y),
+        4 => Node::Joined(Join::Intersection, x, y),
+        5 => Node::Joined(Join::Concatenation, x, y),
+        6 => Node::Applied(Unary::Star, x),
+        7 => Node::Applied(
+            Unary::Band(Range {
                 lo: y,
                 hi: Upper::UpTo(z),
-            },
-        ),
-        8 => Node::Band(
+            }),
             x,
-            Range {
+        ),
+        8 => Node::Applied(
+            Unary::Band(Range {
                 lo: y,
                 hi: Upper::Endless,
-            },
+            }),
+            x,
         ),
         _ => Node::Epsilon,
     }
@@ -158,19 +173,25 @@ fn words_of(node: Node) -> Words
 {
     match node {
         Node::Epsilon => Words(0, 0, 0, 0),
-        Node::High(channel) => Words(1, channel, 0, 0),
-        Node::Low(channel) => Words(2, channel, 0, 0),
-        Node::Union(left, right) => Words(3, left, right, 0),
-        Node::Intersection(left, right) => Words(4, left, right, 0),
-        Node::Concatenation(left, right) => Words(5, left, right, 0),
-        Node::Star(operand) => Words(6, operand, 0, 0),
-        Node::Band(operand, range) => {
-            let hi = range.hi;
-            match hi {
-                Upper::UpTo(n) => Words(7, operand, range.lo, n),
-                Upper::Endless => Words(8, operand, range.lo, 0),
+        Node::Literal(sign, channel) => match sign {
+            Sign::High => Words(1, channel, 0, 0),
+            Sign::Low => Words(2, channel, 0, 0),
+        },
+        Node::Joined(join, left, right) => match join {
+            Join::Union => Words(3, left, right, 0),
+            Join::Intersection => Words(4, left, right, 0),
+            Join::Concatenation => Words(5, left, right, 0),
+        },
+        Node::Applied(op, operand) => match op {
+            Unary::Star => Words(6, operand, 0, 0),
+            Unary::Band(range) => {
+                let hi = range.hi;
+                match hi {
+                    Upper::UpTo(n) => Words(7, operand, range.lo, n),
+                    Upper::Endless => Words(8, operand, range.lo, 0),
+                }
             }
-        }
+        },
     }
 }
 
@@ -344,7 +365,7 @@ fn alternative(text: &[u8], at: usize, nodes: &mut [u32], used: u32) -> Read
         let Read::Part(right) = conjunction(text, tree.at + 1, nodes, tree.used) else {
             return Read::Stop;
         };
-        let node = Node::Union(tree.root, right.root);
+        let node = Node::Joined(Join::Union, tree.root, right.root);
         tree = add(nodes, pair(tree, right), node);
     }
     Read::Part(tree)
@@ -363,7 +384,7 @@ fn conjunction(text: &[u8], at: usize, nodes: &mut [u32], used: u32) -> Read
         let Read::Part(right) = sequence(text, tree.at + 1, nodes, tree.used) else {
             return Read::Stop;
         };
-        let node = Node::Intersection(tree.root, right.root);
+        let node = Node::Joined(Join::Intersection, tree.root, right.root);
         tree = add(nodes, pair(tree, right), node);
     }
     Read::Part(tree)
@@ -382,7 +403,7 @@ fn sequence(text: &[u8], at: usize, nodes: &mut [u32], used: u32) -> Read
         let Read::Part(right) = repeat(text, tree.at + 1, nodes, tree.used) else {
             return Read::Stop;
         };
-        let node = Node::Concatenation(tree.root, right.root);
+        let node = Node::Joined(Join::Concatenation, tree.root, right.root);
         tree = add(nodes, pair(tree, right), node);
     }
     Read::Part(tree)
@@ -414,7 +435,11 @@ fn repeat(text: &[u8], at: usize, nodes: &mut [u32], used: u32) -> Read
     loop {
         let root = tree.root;
         if byte_is(text, tree.at, b'*') {
-            tree = add(nodes, extended(tree, tree.at + 1, false), Node::Star(root));
+            tree = add(
+                nodes,
+                extended(tree, tree.at + 1, false),
+                Node::Applied(Unary::Star, root),
+            );
         } else {
             if !byte_is(text, tree.at, b'{') {
                 return Read::Part(tree);
@@ -422,7 +447,7 @@ fn repeat(text: &[u8], at: usize, nodes: &mut [u32], used: u32) -> Read
             let Braces::Limits(end, range) = range_at(text, tree.at + 1) else {
                 return Read::Stop;
             };
-            let node = Node::Band(root, range);
+            let node = Node::Applied(Unary::Band(range), root);
             tree = add(nodes, extended(tree, end, wrong_range(range)), node);
         }
     }
@@ -456,7 +481,13 @@ fn primary(text: &[u8], at: usize, nodes: &mut [u32], used: u32) -> Read
         let Offset::By(channel) = offset_at(text, at + 1, b'a', 16) else {
             return Read::Stop;
         };
-        return leaf(nodes, used, at + 2, Node::Low(channel), channel + 1);
+        return leaf(
+            nodes,
+            used,
+            at + 2,
+            Node::Literal(Sign::Low, channel),
+            channel + 1,
+        );
     }
     if byte_is(text, at, b'(') {
         let Read::Part(inner) = alternative(text, at + 1, nodes, used) else {
@@ -467,7 +498,13 @@ fn primary(text: &[u8], at: usize, nodes: &mut [u32], used: u32) -> Read
     let Offset::By(channel) = offset_at(text, at, b'a', 16) else {
         return Read::Stop;
     };
-    leaf(nodes, used, at + 1, Node::High(channel), channel + 1)
+    leaf(
+        nodes,
+        used,
+        at + 1,
+        Node::Literal(Sign::High, channel),
+        channel + 1,
+    )
 }
 
 // The part with the closing bracket that has to follow it.

@@ -1,7 +1,10 @@
 // Reads drills from standard input, one to a line after a letter that is the last channel of a recording, and writes
 // for each the number of its refusal, or 0 and its tree with every operator before its operands.
+use expression::Join;
 use expression::Node;
 use expression::Parsed;
+use expression::Sign;
+use expression::Unary;
 use expression::Upper;
 
 fn print(text: &[u8]) {
@@ -29,10 +32,26 @@ fn print_range(range: expression::Range) {
     print(b"}");
 }
 
-fn print_join(nodes: &[u32], join: &[u8], first: u32, second: u32, depth: u32) {
-    print(join);
-    print_tree(nodes, first, depth);
-    print_tree(nodes, second, depth);
+fn print_sign(sign: Sign) {
+    match sign {
+        Sign::High => {}
+        Sign::Low => print(b"!"),
+    }
+}
+
+fn print_join(join: Join) {
+    match join {
+        Join::Union => print(b"|"),
+        Join::Intersection => print(b"&"),
+        Join::Concatenation => print(b"."),
+    }
+}
+
+fn print_unary(op: Unary) {
+    match op {
+        Unary::Star => print(b"*"),
+        Unary::Band(range) => print_range(range),
+    }
 }
 
 // The tree of a node, as far as `depth` goes.
@@ -43,20 +62,17 @@ fn print_tree(nodes: &[u32], n: u32, depth: u32) {
     let node = expression::node_at(nodes, n);
     match node {
         Node::Epsilon => print(b"_"),
-        Node::High(channel) => print_letter(channel),
-        Node::Low(channel) => {
-            print(b"!");
+        Node::Literal(sign, channel) => {
+            print_sign(sign);
             print_letter(channel);
         }
-        Node::Union(left, right) => print_join(nodes, b"|", left, right, depth - 1),
-        Node::Intersection(left, right) => print_join(nodes, b"&", left, right, depth - 1),
-        Node::Concatenation(left, right) => print_join(nodes, b".", left, right, depth - 1),
-        Node::Star(operand) => {
-            print(b"*");
-            print_tree(nodes, operand, depth - 1);
+        Node::Joined(join, left, right) => {
+            print_join(join);
+            print_tree(nodes, left, depth - 1);
+            print_tree(nodes, right, depth - 1);
         }
-        Node::Band(operand, range) => {
-            print_range(range);
+        Node::Applied(op, operand) => {
+            print_unary(op);
             print_tree(nodes, operand, depth - 1);
         }
     }

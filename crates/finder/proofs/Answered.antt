@@ -9,8 +9,8 @@ use lib.IntN.{ℤ, pos}
 use lib.ListN.{length, drop, length-append, length-drop, length-replicate, getD-replicate, replicate, List·getD-append}
 use lib.Seq.{take-at, getD-append-add, getD-drop, ext-getD}
 use Rattle.zone.specs.declared.Zone.{Zone}
-use Rattle.zone.specs.Words.{word, codes, zoneAt}
-use Rattle.zone.proofs.Words.{zone-of-codes, zone-word}
+use Rattle.words.specs.Words.{word, codes, zoneAt}
+use Rattle.words.proofs.Words.{zone-of-codes, zone-word}
 use Rattle.list.specs.Slots.{listAt}
 use Rattle.finder.specs.Outcome.{words, fronted, zeroed, frontOf}
 

@@ -8,8 +8,8 @@ use native.Mathlib.Omega.{arith}
 use lib.IntN.{ℤ, pos}
 use lib.ListN.{length, set, take, drop, replicate, length-replicate, replicate-append-replicate, length-drop}
 use lib.Seq.{take-suc, drop-cons, length-take-le, ext-getD, getD-drop}
-use Rattle.zone.specs.Words.{word}
-use Rattle.zone.proofs.Words.{zone-words}
+use Rattle.words.specs.Words.{word}
+use Rattle.words.proofs.Words.{zone-words}
 use Rattle.list.specs.Slots.{listAt, Kept}
 use Rattle.finder.specs.Outcome.{room, words, fronted, zeroed, cleared}
 

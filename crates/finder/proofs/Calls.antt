@@ -17,38 +17,12 @@ use Rattle.expression.specs.Expression.{Expression}
 use Rattle.expression.specs.Refusal.{Accepted, Cause as DrillCause, wrong-length, no-form, wrong-letter, wrong-range, too-deep}
 use Rattle.expression.proofs.Complete.{unique}
 use Rattle.expression.proofs.Answers.{answered}
-use Rattle.finder.specs.Lists.{value, overflow, Value, repeated, Turns, Sum}
-use Rattle.finder.specs.Outcome.{
-  Outcome,
-  RecordingLength,
-  RecordingHead,
-  RecordingChange,
-  DrillLength,
-  DrillForm,
-  DrillLetter,
-  DrillRange,
-  DrillDepth,
-  WorkShort,
-  ListFull,
-  AnswerShort,
-  Finished,
-  Comes,
-  CallAs,
-  CallAs.refused,
-  CallAs.accepted,
-  words,
-  fronted,
-  frontOf,
-  BothKept,
-  AnswerKept,
-  Delivered,
-  BuffersAs,
-  FindAs,
-}
+use Rattle.evaluation.specs.Lists.{value, overflow, Value, repeated, Turns, Sum}
+use Rattle.finder.specs.Outcome.{Outcome, RecordingLength, RecordingHead, RecordingChange, DrillLength, DrillForm, DrillLetter, DrillRange, DrillDepth, WorkShort, ListFull, AnswerShort, Finished, Comes, CallAs, CallAs.refused, CallAs.accepted, words, fronted, frontOf, BothKept, AnswerKept, Delivered, BuffersAs, FindAs}
 use Rattle.finder.specs.Demands.{Exact, Total, NoInputCause}
-use Rattle.finder.proofs.Evaluation.{evaluates-well, evaluates-exists}
-use Rattle.finder.proofs.Members.{members}
-use Rattle.finder.proofs.Totals.{evaluates-sum, sum-mem, sum-unique, turns-unique, turns-bound, turns-pieces}
+use Rattle.evaluation.proofs.Evaluation.{evaluates-well, evaluates-exists}
+use Rattle.evaluation.proofs.Members.{members}
+use Rattle.evaluation.proofs.Totals.{evaluates-sum, sum-mem, sum-unique, turns-unique, turns-bound, turns-pieces}
 use Rattle.finder.proofs.Causes.{recording-finite, comes-unique, call-unique, number-none}
 use Rattle.finder.proofs.Turned.{recordings, drills}
 use Rattle.finder.proofs.Answered.{front-words, list-words}

@@ -10,32 +10,9 @@ use Rattle.recording.specs.Levels.{Shows}
 use Rattle.recording.proofs.Handed.{shows-runs, shows-held}
 use Rattle.expression.specs.Expression.{Expression}
 use Rattle.expression.proofs.Complete.{unique}
-use Rattle.finder.specs.Lists.{Value, Evaluates}
-use Rattle.finder.specs.Outcome.{
-  Outcome,
-  RecordingLength,
-  RecordingHead,
-  RecordingChange,
-  DrillLength,
-  DrillForm,
-  DrillLetter,
-  DrillRange,
-  DrillDepth,
-  WorkShort,
-  ListFull,
-  AnswerShort,
-  Finished,
-  returned,
-  Comes,
-  Cause,
-  refusals,
-  First,
-  NoCause,
-  CallAs,
-  CallAs.refused,
-  CallAs.accepted,
-}
-use Rattle.finder.proofs.Evaluation.{FiniteVariability, evaluates-unique}
+use Rattle.evaluation.specs.Lists.{Value, Evaluates}
+use Rattle.finder.specs.Outcome.{Outcome, RecordingLength, RecordingHead, RecordingChange, DrillLength, DrillForm, DrillLetter, DrillRange, DrillDepth, WorkShort, ListFull, AnswerShort, Finished, returned, Comes, Cause, refusals, First, NoCause, CallAs, CallAs.refused, CallAs.accepted}
+use Rattle.evaluation.proofs.Evaluation.{FiniteVariability, evaluates-unique}
 
 -- ---- recordings
 

@@ -1,11 +1,9 @@
 -- From what the steps of a call answer to the whole call.
-use mathlib.Core.Path.{_≡_, refl, sym, ap, subst, _∙_}
+use mathlib.Core.Path.{_≡_, refl, ap, subst}
 use mathlib.Core.List.{List, _++_}
-use Prim.Native.Nat.{ℕ, _*_, _≤_, _<_}
-use native.Mathlib.Omega.{arith}
+use Prim.Native.Nat.{ℕ, _<_}
 use lib.IntN.{ℤ}
 use lib.ListN.{length}
-use Rattle.zone.specs.declared.Zone.{Zone}
 use Rattle.recording.specs.Reading.{ticks, channels, reading, ReadAs}
 use Rattle.recording.specs.Levels.{Shows}
 use Rattle.recording.specs.declared.Recording.{Recording}
@@ -13,28 +11,8 @@ use Rattle.recording.specs.declared.Reading.the-variants.{Recorded}
 use Rattle.recording.proofs.Refusals.{read-numbers, read-end}
 use Rattle.expression.specs.Expression.{Expression}
 use Rattle.expression.specs.Refusal.{Accepted, Refused}
-use Rattle.finder.specs.Lists.{Value, value, overflow, Evaluates}
-use Rattle.finder.specs.Outcome.{
-  Outcome,
-  RecordingLength,
-  RecordingHead,
-  RecordingChange,
-  DrillLength,
-  DrillForm,
-  DrillLetter,
-  DrillRange,
-  DrillDepth,
-  WorkShort,
-  ListFull,
-  AnswerShort,
-  Finished,
-  largest,
-  returned,
-  Comes,
-  CallAs,
-  BothKept,
-  FindAs,
-}
+use Rattle.evaluation.specs.Lists.{Value, value, overflow, Evaluates}
+use Rattle.finder.specs.Outcome.{Outcome, RecordingLength, RecordingHead, RecordingChange, DrillLength, DrillForm, DrillLetter, DrillRange, DrillDepth, WorkShort, ListFull, AnswerShort, Finished, largest, returned, Comes, CallAs, BothKept, FindAs}
 use Rattle.finder.specs.Demands.{Demand1, Demand2, Demand3}
 use Rattle.finder.specs.Steps.{WorkedAs}
 use Rattle.finder.proofs.Demands.{demand-1, demand-2, demand-3}

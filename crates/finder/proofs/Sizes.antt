@@ -16,9 +16,9 @@ use Rattle.recording.proofs.Rounding.{tick-range}
 use Rattle.expression.specs.Expression.{depth}
 use Rattle.expression.specs.Refusal.{too-deep}
 use Rattle.finder.specs.Outcome.{RecordingHead, DrillLength, DrillForm, DrillLetter, DrillRange, DrillDepth, Finished, NoCause, frontOf, FindAs}
-use Rattle.finder.specs.Steps.{most-rounds}
-use Rattle.finder.proofs.Evaluation.{evaluates-well}
-use Rattle.finder.proofs.Totals.{rounds-few}
+use Rattle.evaluation.specs.Steps.{most-rounds}
+use Rattle.evaluation.proofs.Evaluation.{evaluates-well}
+use Rattle.evaluation.proofs.Totals.{rounds-few}
 use Rattle.finder.proofs.Causes.{number-none}
 use Rattle.finder.proofs.Turned.{recordings}
 use Rattle.finder.proofs.Answered.{words-length}

@@ -15,32 +15,9 @@ use Rattle.recording.proofs.Rounding.{tick-range}
 use Rattle.expression.specs.Expression.{Expression}
 use Rattle.expression.specs.Refusal.{Accepted, Refused, Cause as DrillCause, wrong-length, no-form, wrong-letter, wrong-range, too-deep}
 use Rattle.expression.proofs.Answers.{answered}
-use Rattle.finder.specs.Lists.{Value, value, overflow}
-use Rattle.finder.specs.Outcome.{
-  Outcome,
-  RecordingLength,
-  RecordingHead,
-  RecordingChange,
-  DrillLength,
-  DrillForm,
-  DrillLetter,
-  DrillRange,
-  DrillDepth,
-  WorkShort,
-  ListFull,
-  AnswerShort,
-  Finished,
-  returned,
-  Comes,
-  largest,
-  room,
-  Cause,
-  refusals,
-  CallAs,
-  CallAs.refused,
-  CallAs.accepted,
-}
-use Rattle.finder.proofs.Evaluation.{clash, evaluates-exists}
+use Rattle.evaluation.specs.Lists.{Value, value, overflow}
+use Rattle.finder.specs.Outcome.{Outcome, RecordingLength, RecordingHead, RecordingChange, DrillLength, DrillForm, DrillLetter, DrillRange, DrillDepth, WorkShort, ListFull, AnswerShort, Finished, returned, Comes, largest, room, Cause, refusals, CallAs, CallAs.refused, CallAs.accepted}
+use Rattle.evaluation.proofs.Evaluation.{clash, evaluates-exists}
 use Rattle.finder.proofs.Causes.{recording-finite, comes-unique, same-number}
 
 -- the causes of a recording, 1 to 3, and of a drill, 4 to 8

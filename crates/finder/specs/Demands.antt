@@ -8,34 +8,19 @@ use lib.ListN.{length}
 use Rattle.zone.specs.Time.{Time}
 use Rattle.zone.specs.declared.Zone.{Zone}
 use Rattle.zone.specs.Zone.{In}
-use Rattle.list.specs.Pieces.{Pieces, Lies, AllProper}
+use Rattle.star.specs.Pieces.{Pieces}
+use Rattle.list.specs.Members.{Lies, AllProper}
 use Rattle.list.specs.Antichain.{Antichain}
 use Rattle.list.specs.Slots.{listAt}
 use Rattle.recording.specs.Reading.{ticks}
 use Rattle.recording.specs.Levels.{Shows}
 use Rattle.recording.specs.declared.Level.{Level}
-use Rattle.expression.specs.Expression.{Expression, star}
+use Rattle.expression.specs.declared.Unary.the-variants.{Star}
+use Rattle.expression.specs.Expression.{Expression, unary}
 use Rattle.expression.specs.Grammar.{Form, alternative}
-use Rattle.finder.specs.Satisfies.{Stretch, Satisfies}
-use Rattle.finder.specs.Lists.{repeated, Turns, Sum}
-use Rattle.finder.specs.Outcome.{
-  Outcome,
-  RecordingLength,
-  RecordingHead,
-  RecordingChange,
-  DrillLength,
-  DrillForm,
-  DrillLetter,
-  DrillRange,
-  DrillDepth,
-  ListFull,
-  returned,
-  Cause,
-  First,
-  NoCause,
-  frontOf,
-  FindAs,
-}
+use Rattle.evaluation.specs.Satisfies.{Stretch, Satisfies}
+use Rattle.evaluation.specs.Lists.{repeated, Turns, Sum}
+use Rattle.finder.specs.Outcome.{Outcome, RecordingLength, RecordingHead, RecordingChange, DrillLength, DrillForm, DrillLetter, DrillRange, DrillDepth, ListFull, returned, Cause, First, NoCause, frontOf, FindAs}
 
 -- ==== Demand 1: the outcome and both buffers are the defined ones. "Each is given when its cause holds and no earlier one does, and never
 -- otherwise. A drill is accepted where no cause holds"
@@ -69,7 +54,7 @@ pub record Bounded (Shows : ℕ → Level → ℕ → Type 0) (from to : ℕ) (f
   pub rounds : ℕ
   pub turns : Turns Shows from to f rounds
   pub few : rounds ≤ length (turns .inner) + (to - from)
-  pub pieces : (x y : Time) → Stretch from to x y → Satisfies Shows (star f) x y
+  pub pieces : (x y : Time) → Stretch from to x y → Satisfies Shows (unary Star f) x y
       → (n : ℕ) × (n ≤ length (turns .inner) + (to - from)) × Pieces (λ s t. Satisfies Shows f s t) n x y
 
 -- of a recording and a drill: every `*` written, and the sum over all of them

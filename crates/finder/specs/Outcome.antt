@@ -7,13 +7,13 @@ use lib.Dec.{leb}
 use lib.IntN.{ℤ, pos}
 use lib.ListN.{length, take, drop, replicate}
 use Rattle.zone.specs.declared.Zone.{Zone}
-use Rattle.zone.specs.Words.{codes}
+use Rattle.words.specs.Words.{codes}
 use Rattle.recording.specs.Reading.{ticks, channels, Sized, Headed, AllChanged}
 use Rattle.recording.specs.Levels.{Shows}
 use Rattle.expression.specs.Expression.{Expression}
 use Rattle.expression.specs.Grammar.{Form, alternative}
 use Rattle.expression.specs.Refusal.{Cause as DrillCause}
-use Rattle.finder.specs.Lists.{Value, value, overflow, Evaluates}
+use Rattle.evaluation.specs.Lists.{Value, value, overflow, Evaluates}
 pub use Rattle.finder.specs.declared.Returned.{Returned}
 pub use Rattle.finder.specs.declared.Outcome.{Outcome}
 pub use Rattle.finder.specs.declared.Outcome.the-variants.{

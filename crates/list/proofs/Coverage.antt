@@ -4,7 +4,7 @@ use mathlib.Core.Path.{_≡_, refl, sym, ap, subst}
 use mathlib.Core.Logic.{_↔_, _⊎_, inl, inr, ⊎-map, ⊎-elim}
 use mathlib.Core.Bool.{Bool, true, false, cond, _||_}
 use mathlib.Core.List.{List, [], _∷_, _++_, List·Memᴰ, List·Memᴰ·head as head, List·Memᴰ·tail as tail, List·Memᴰ·not-nil as not-nil, Memᴰ·append-left as append-left, Memᴰ·append-right as append-right, List·Memᴰ·append-cases as append-cases, List·Memᴰ·eq-of-singleton as eq-of-singleton}
-use Prim.Native.Nat.{ℕ, _+_, _≤_, _<_}
+use Prim.Native.Nat.{ℕ, _≤_, _<_}
 use native.Mathlib.Omega.{arith}
 use borrow.Author.Tests.{ltb-true, ltb-false}
 use lib.Dec.{T, ltb}
@@ -16,7 +16,7 @@ use Rattle.zone.specs.declared.MaybeZone.the-variants.{Zone as zone, Empty as e
 use Rattle.zone.specs.Zone.{contains, In, InMaybe, Proper}
 use Rattle.zone.proofs.Laws.{contains-refl, contains-trans, contains-in}
 use Rattle.list.specs.Insert.{most, covered, outside, Put, away, placed, full, insert, listed, after, insert-each}
-use Rattle.list.specs.Pieces.{Lies, AllProper, Covered}
+use Rattle.list.specs.Members.{Lies, AllProper, Covered}
 use Rattle.list.specs.Antichain.{Apart, Antichain}
 
 -- two constructors are never equal: `clash (cc)`

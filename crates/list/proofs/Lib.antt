@@ -1,14 +1,7 @@
 pub mod Coverage
-pub mod Loops
-pub mod Pairs
-pub mod Rounds
-pub mod Composed
-pub mod Bound
 pub mod Members
 pub mod Theorems
 pub mod Slots
 pub mod Scan
 pub mod Puts
-pub mod Growing
-pub mod Answers
-pub mod Turning
+pub mod Copies

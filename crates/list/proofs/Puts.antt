@@ -1,6 +1,6 @@
 -- The three ways of a put.
 use mathlib.Core.Path.{_≡_, refl, sym, ap, subst, _∙_}
-use mathlib.Core.Bool.{Bool, true, false}
+use mathlib.Core.Bool.{true, false}
 use mathlib.Core.List.{List, [], _∷_, _++_}
 use Prim.Native.Nat.{ℕ, _+_, _*_, _≤_, _<_}
 use native.Mathlib.Omega.{arith}
@@ -8,18 +8,14 @@ use lib.IntN.{ℤ}
 use lib.ListN.{length}
 use borrow.Author.Tests.{lt-ltb, le-ltb}
 use Rattle.zone.specs.declared.Zone.{Zone}
-use Rattle.zone.specs.declared.MaybeZone.the-variants.{Zone as zone}
-use Rattle.zone.specs.Words.{zoneAt, codes, overwrite}
-use Rattle.zone.proofs.Words.{written-zone}
-use Rattle.list.specs.Insert.{covered, outside, away, placed, full, insert, insert-each}
+use Rattle.words.specs.Words.{zoneAt, codes, overwrite}
+use Rattle.words.proofs.Words.{written-zone}
+use Rattle.list.specs.Insert.{covered, outside, away, placed, full, insert}
 use Rattle.list.specs.Slots.{listAt, Holds, Kept, Placement, InsertAs}
-use Rattle.list.specs.Steps.{GrownAs, AppendAs}
+use Rattle.list.specs.Steps.{AppendAs}
 use Rattle.list.specs.declared.Inserted.{Inserted}
 use Rattle.list.specs.declared.Inserted.the-variants.{Away, Placed, Full}
-use Rattle.list.specs.declared.Grown.{Grown}
-use Rattle.list.specs.declared.Grown.the-variants.{Grew, TooMany}
-use Rattle.list.proofs.Slots.{listAt-length, holds-more, kept-refl, kept-trans, kept-within, kept-written}
-use Rattle.list.proofs.Loops.{mark-placed}
+use Rattle.list.proofs.Slots.{listAt-length, holds-more, kept-trans, kept-within, kept-written}
 
 module _ (z : Zone) (L : List Zone) where
   pub insert-away : covered z L ≡ true → insert z L ≡ away
@@ -64,28 +60,3 @@ module _ (z : Zone) (ws : List ℤ) {us : List ℤ} (base n : ℕ) {m : ℕ} (ne
 
 pub holds-same : (ws : List ℤ) (base n : ℕ) → n ≤ 128 → Holds ws base n (listAt ws base n)
 holds-same ws base n h = record { count = listAt-length ws base n; few = h; zones = refl }
-
--- the answer of `grow` to the answer of a put
-abbrev pub grown-by : Bool → ℕ → Inserted → Grown
-grown-by changed n Away = Grew n changed
-grown-by changed n (Placed k) = Grew k true
-grown-by changed n Full = TooMany
-
-module _ (z : Zone) (ws vs : List ℤ) (target n : ℕ) (changed : Bool) (few : n ≤ 128) where
-  -- what the answer to a put means for the puts of one zone
-  pub grown : (r : Inserted) → InsertAs z ws target n vs r → GrownAs (insert-each (zone z ∷ []) (listAt ws target n)) changed (listAt ws target n) vs target (grown-by changed n r)
-  unfolding insert-each
-  grown Away a =
-      record {
-        list = listAt ws target n;
-        value = rw (a .0);
-        holds = subst (λ (xs : List ℤ). Holds xs target n (listAt ws target n)) (sym (a .1)) (holds-same ws target n few);
-        marks = λ S m. m;
-      }
-  grown (Placed k) p = record { list = p .list; value = rw (p .value); holds = p .holds; marks = λ S m. mark-placed changed z (listAt ws target n) m (p .value) }
-  grown Full a = rw (a .0)
-
-  pub grown-kept : (r : Inserted) → InsertAs z ws target n vs r → Kept target 768 ws vs
-  grown-kept Away a = subst (λ (xs : List ℤ). Kept target 768 ws xs) (sym (a .1)) (kept-refl target 768 ws)
-  grown-kept (Placed k) p = p .kept
-  grown-kept Full a = a .1

@@ -10,9 +10,9 @@ use lib.IntN.{ℤ}
 use lib.ListN.{length}
 use Rattle.zone.specs.declared.Zone.{Zone}
 use Rattle.zone.specs.Zone.{contains}
-use Rattle.zone.specs.Words.{zoneAt}
+use Rattle.words.specs.Words.{zoneAt}
 use Rattle.list.specs.Insert.{covered, outside}
-use Rattle.zone.proofs.Words.{same-zone}
+use Rattle.words.proofs.Words.{same-zone}
 use Rattle.list.specs.Slots.{listAt, Holds, Kept}
 use Rattle.list.specs.Steps.{Copied, KeepsAs, Sifting, Clear, Alone, LookAs}
 use Rattle.list.specs.declared.Look.{Look}

@@ -11,8 +11,8 @@ use lib.ListN.{length, set, take, drop, length-set, length-append, length-drop, 
 use lib.Seq.{getD-set-same, getD-set-other, length-take-le, take-all, getD-take, getD-drop, getD-append-add}
 use borrow.Author.Tests.{ltb-true, ltb-false}
 use Rattle.zone.specs.declared.Zone.{Zone}
-use Rattle.zone.specs.Words.{word, zoneAt, codes, overwrite}
-use Rattle.zone.proofs.Words.{same-zone, written-zone, zone-word, overwrite-length, overwrite-below, overwrite-in, overwrite-above}
+use Rattle.words.specs.Words.{word, zoneAt, codes, overwrite}
+use Rattle.words.proofs.Words.{same-zone, written-zone, zone-word, overwrite-length, overwrite-below, overwrite-in, overwrite-above}
 use Rattle.list.specs.Slots.{listAt, Slot, Source, Sound, Holds, Kept, Disjoint}
 use Rattle.list.specs.Steps.{Copied}
 

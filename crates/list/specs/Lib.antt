@@ -1,7 +1,5 @@
 pub mod Insert
-pub mod Operators
-pub mod Star
-pub mod Pieces
+pub mod Members
 pub mod Antichain
 pub mod Slots
 pub mod Steps

@@ -16,7 +16,7 @@ use Rattle.zone.specs.declared.Limit.the-variants.{AtMost, Below}
 use Rattle.zone.specs.Limit.{value, Small}
 use Rattle.zone.specs.declared.Zone.{Zone}
 use Rattle.zone.specs.Zone.{Ranged}
-use Rattle.zone.specs.Words.{zoneAt}
+use Rattle.words.specs.Words.{zoneAt}
 use Rattle.list.specs.Slots.{listAt}
 use Rattle.list.proofs.Slots.{listAt-snoc}
 use Rattle.sheet.specs.Decimal.{decimal, integer}

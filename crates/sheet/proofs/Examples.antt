@@ -6,7 +6,7 @@ use lib.IntN.{ℤ, pos, negℤ}
 use Rattle.finder.specs.declared.Outcome.the-variants.{DrillForm, ListFull, Finished}
 use Rattle.finder.specs.Text.{ascii}
 use Rattle.finder.specs.Outcome.{returned}
-use Rattle.zone.specs.Words.{zoneAt}
+use Rattle.words.specs.Words.{zoneAt}
 use Rattle.sheet.specs.Decimal.{next, counted, decimal, integer}
 use Rattle.sheet.specs.Sheet.{range, line, lines, finished, refused, sheet}
 

@@ -8,7 +8,7 @@ use Rattle.zone.specs.declared.Limit.{Limit}
 use Rattle.zone.specs.declared.Limit.the-variants.{AtMost, Below}
 use Rattle.zone.specs.declared.Zone.{Zone}
 use Rattle.zone.specs.Limit.{value}
-use Rattle.zone.specs.Words.{zoneAt}
+use Rattle.words.specs.Words.{zoneAt}
 use Rattle.sheet.specs.Decimal.{decimal, integer}
 use Rattle.finder.specs.declared.Returned.{Returned}
 use Rattle.finder.specs.Text.{ascii}

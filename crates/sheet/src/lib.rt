@@ -146,7 +146,7 @@ fn lines(out: &mut [u8], w: Written, front: &[i32], zones: usize) -> Written
     let mut so_far = w;
     let mut i = 0;
     while i < zones {
-        let z = zone::read_zone(front, i * 6);
+        let z = words::read_zone(front, i * 6);
         so_far = line(out, so_far, z);
         i += 1;
     }

@@ -17,6 +17,6 @@ pub mod Lengths
 pub mod Times
 pub mod Steps
 pub mod Ranges
-pub mod Words
+pub mod Coding
 pub mod Signed
 pub mod Laws

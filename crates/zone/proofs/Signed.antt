@@ -1,7 +1,6 @@
 -- What the machine's numbers hold in the functions on limits.
 use mathlib.Core.Path.{_≡_, sym, ap, subst, _∙_}
-use mathlib.Core.List.{List, [], _∷_}
-use Prim.Native.Nat.{ℕ, _+_, _≤_}
+use Prim.Native.Nat.{ℕ, _≤_}
 use native.Mathlib.Omega.{arith}
 use lib.IntN.{ℤ, pos, negℤ, _+ℤ_, _-ℤ_, _*ℤ_, +ℤ-idl}
 use lib.Signed.{mag, shrZ, mag-shr, leZ}
@@ -11,8 +10,7 @@ use mir.ValLaws.{sfits-le}
 use Rattle.signed.proofs.Integers.{arithZ, sum, diff, neg, size, half, times}
 use Rattle.signed.proofs.Machine.{back, fits-by}
 use Rattle.zone.specs.Limit.{Limit, AtMost, Below, Small, at-most, lesser, _⊕_, nought, code, decode}
-use Rattle.zone.specs.Words.{word, codes, zoneAt, overwrite}
-use Rattle.zone.proofs.Words.{zone-words, decode-code, code-decode, decode-odd, decode-even, room-beside, excess-odd, excess-even}
+use Rattle.zone.proofs.Coding.{decode-code, code-decode, decode-odd, decode-even, room-beside, excess-odd, excess-even}
 
 -- the sum that a call of `add` gives, kept in a local
 sum-back : {x y r : ℤ} → SFits w32 x → SFits w32 y → SFits w32 r → r ≡ toZ w32 (ofZ w32 x) +ℤ toZ w32 (ofZ w32 y) → toZ w32 (ofZ w32 r) ≡ x +ℤ y
@@ -158,12 +156,6 @@ or-sum-is {a} {b} {c} fa fb fc fs fr p q = back fr ∙ q ∙ rw (back fa, back f
 -- the words of limits, kept in locals, and what is computed of them
 word-kept : {x : ℤ} (l : Limit) → SFits w32 x → x ≡ code l → decode (toZ w32 (ofZ w32 x)) ≡ l
 word-kept l f e = ap decode (read-back f e) ∙ decode-code l
-
--- six words that were read, kept in locals and written elsewhere are those of the zone that was read
-pub zone-kept : (vs : List ℤ) (at : ℕ) (ws : List ℤ) (i : ℕ)
-    → SFits w32 (word ws i) → SFits w32 (word ws (i + 1)) → SFits w32 (word ws (i + 2)) → SFits w32 (word ws (i + 3)) → SFits w32 (word ws (i + 4)) → SFits w32 (word ws (i + 5))
-    → overwrite vs at (toZ w32 (ofZ w32 (word ws i)) ∷ toZ w32 (ofZ w32 (word ws (i + 1))) ∷ toZ w32 (ofZ w32 (word ws (i + 2))) ∷ toZ w32 (ofZ w32 (word ws (i + 3))) ∷ toZ w32 (ofZ w32 (word ws (i + 4))) ∷ toZ w32 (ofZ w32 (word ws (i + 5))) ∷ []) ≡ overwrite vs at (codes (zoneAt ws i))
-zone-kept vs at ws i a b c d e f = (λ k. overwrite vs at (back a k ∷ back b k ∷ back c k ∷ back d k ∷ back e k ∷ back f k ∷ [])) ∙ ap (overwrite vs at) (sym (zone-words ws i))
 
 pub small-kept : {x : ℤ} (l : Limit) → SFits w32 x → x ≡ code l → Small 4_000_000 l → Small 4_000_000 (decode (toZ w32 (ofZ w32 x)))
 small-kept l f e h = rw (word-kept l f e) h

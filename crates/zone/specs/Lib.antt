@@ -1,4 +1,3 @@
 pub mod Time
 pub mod Limit
 pub mod Zone
-pub mod Words

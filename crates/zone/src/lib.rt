@@ -2,17 +2,14 @@
 // start − end (a difference-bound matrix of three points). The layer knows nothing of recordings or drills.
 //
 // specs/ says what a time, a limit and a zone mean; proofs/Laws.antt is the page of laws that crates above cite, beside
-// those of times and of words in a buffer. A `requires` is only of ranges, and every tight zone inside 0..1,000,000
-// meets it (`ranged` in proofs/Laws.antt).
+// those of times. A `requires` is only of ranges, and every tight zone inside 0..1,000,000 meets it (`ranged` in
+// proofs/Laws.antt).
 ghost use mathlib.Core.Path.{_≡_};
-ghost use mathlib.Core.List.{[], _∷_};
-ghost use Prim.Native.Nat.{_+_, _≤_, _<_};
-ghost use lib.ListN.{length};
+ghost use Prim.Native.Nat.{_≤_};
 ghost use lib.IntN.{pos, negℤ, _+ℤ_, _-ℤ_};
 ghost use lib.Signed.{mag};
 ghost use Rattle.zone.specs.Limit.{at-most, lesser, _⊕_, nought, code, decode, Small};
-ghost use Rattle.zone.specs.Zone.{tighter, tighten, both, meet, joined, compose, contains, nesting, run, diagonal, everything, limited, band, Ranged, Tightens, Meets, Composes, Contains};
-ghost use Rattle.zone.specs.Words.{word, codes, zoneAt, overwrite};
+ghost use Rattle.zone.specs.Zone.{tighter, tighten, both, meet, joined, compose, contains, run, diagonal, everything, limited, band, Ranged, Tightens, Meets, Composes, Contains};
 
 // An upper limit: reached (non-strict) or not reached (strict), with its whole number.
 pub enum Limit {
@@ -418,147 +415,4 @@ impl Zone {
             .limited(longest, shortest)
             .tighten()
     }
-}
-
-fn limit_at(words: &[i32], at: usize) -> Limit
-    requires { ⌜ at < length (now words) ⌝ }
-    ensures { λ r. ⌜ r ≡ decode (word (now (words .entry)) at) ⌝ }
-{
-    let w = words[at];
-    Limit::of_word(w)
-}
-
-// The zone whose six words stand from `at` on.
-pub fn read_zone(words: &[i32], at: usize) -> Zone
-    requires { ⌜ at + 6 ≤ length (now words) ⌝ }
-    ensures { λ r. ⌜ r ≡ zoneAt (now (words .entry)) at ⌝ }
-{
-    Zone {
-        start: limit_at(words, at),
-        nstart: limit_at(words, at + 1),
-        end: limit_at(words, at + 2),
-        nend: limit_at(words, at + 3),
-        length: limit_at(words, at + 4),
-        nlength: limit_at(words, at + 5),
-    }
-}
-
-// Writes six words from `at` on; all other words stay as they were.
-fn write_words(words: &mut [i32], at: usize, s: i32, ns: i32, e: i32, ne: i32, l: i32, nl: i32)
-    requires { ⌜ at + 6 ≤ length (now words) ⌝ }
-    ensures { λ _. ⌜ now (words .exit) ≡ overwrite (now (words .entry)) at (s ∷ ns ∷ e ∷ ne ∷ l ∷ nl ∷ []) ⌝ }
-{
-    words[at] = s;
-    words[at + 1] = ns;
-    words[at + 2] = e;
-    words[at + 3] = ne;
-    words[at + 4] = l;
-    words[at + 5] = nl;
-}
-
-// Writes the six words of a zone from `at` on; all other words stay as they were.
-pub fn write_zone(words: &mut [i32], at: usize, z: Zone)
-    requires { ⌜ (at + 6 ≤ length (now words)) × (Ranged 1_000_000 z) ⌝ }
-    ensures { λ _. ⌜ now (words .exit) ≡ overwrite (now (words .entry)) at (codes z) ⌝ }
-{
-    let s = z.start;
-    let ns = z.nstart;
-    let e = z.end;
-    let ne = z.nend;
-    let l = z.length;
-    let nl = z.nlength;
-    write_words(
-        words,
-        at,
-        s.word(),
-        ns.word(),
-        e.word(),
-        ne.word(),
-        l.word(),
-        nl.word(),
-    );
-}
-
-// Copies the zone whose words stand from `i` on in `from`; all other words stay as they were.
-pub fn copy_zone(words: &mut [i32], at: usize, from: &[i32], i: usize)
-    requires { ⌜ (at + 6 ≤ length (now words)) × (i + 6 ≤ length (now from)) ⌝ }
-    ensures { λ _. ⌜ now (words .exit) ≡ overwrite (now (words .entry)) at (codes (zoneAt (now (from .entry)) i)) ⌝ }
-{
-    let s = from[i];
-    let ns = from[i + 1];
-    let e = from[i + 2];
-    let ne = from[i + 3];
-    let l = from[i + 4];
-    let nl = from[i + 5];
-    write_words(words, at, s, ns, e, ne, l, nl);
-}
-
-// Copies the zone whose words stand from `from` on to `to` in the same words; all others stay as they were. The six are
-// read before the first is written, so that the two places may have words in common.
-pub fn move_zone(words: &mut [i32], from: usize, to: usize)
-    requires { ⌜ (from + 6 ≤ length (now words)) × (to + 6 ≤ length (now words)) ⌝ }
-    ensures { λ _. ⌜ now (words .exit) ≡ overwrite (now (words .entry)) to (codes (zoneAt (now (words .entry)) from)) ⌝ }
-{
-    let s = words[from];
-    let ns = words[from + 1];
-    let e = words[from + 2];
-    let ne = words[from + 3];
-    let l = words[from + 4];
-    let nl = words[from + 5];
-    write_words(words, to, s, ns, e, ne, l, nl);
-}
-
-// Whether the limit of one word is at most that of another: the order of words is that of limits, so nothing is decoded.
-fn word_at_most(inner: &[i32], i: usize, outer: &[i32], j: usize) -> bool
-    requires { ⌜ (i < length (now inner)) × (j < length (now outer)) ⌝ }
-    ensures { λ r. ⌜ r ≡ at-most (decode (word (now (inner .entry)) i)) (decode (word (now (outer .entry)) j)) ⌝ }
-{
-    inner[i] <= outer[j]
-}
-
-// Whether the tight zone whose words stand from `i` on in `inner` lies inside the one from `j` on in `outer`. The starts
-// mostly settle it. The other four limits are compared in one go.
-pub fn included(inner: &[i32], i: usize, outer: &[i32], j: usize) -> bool
-    requires { ⌜ (i + 6 ≤ length (now inner)) × (j + 6 ≤ length (now outer)) ⌝ }
-    ensures value { λ r. ⌜ r ≡ contains (zoneAt (now (outer .entry)) j) (zoneAt (now (inner .entry)) i) ⌝ }
-    ensures meaning { λ r. ⌜ Contains (zoneAt (now (outer .entry)) j) (zoneAt (now (inner .entry)) i) r ⌝ }
-{
-    if !word_at_most(inner, i, outer, j) {
-        return false;
-    }
-    if !word_at_most(inner, i + 1, outer, j + 1) {
-        return false;
-    }
-    word_at_most(inner, i + 2, outer, j + 2)
-        & word_at_most(inner, i + 3, outer, j + 3)
-        & word_at_most(inner, i + 4, outer, j + 4)
-        & word_at_most(inner, i + 5, outer, j + 5)
-}
-
-// How the tight zone whose words stand from `i` on in `a` lies to the one from `j` on in `b`. The one whose starts have the
-// higher upper limit cannot lie inside the other, so this way is not asked. Whether it is the one in `a` is asked first:
-// zones are mostly put in rising time, and `a` has the new one.
-pub fn nested(a: &[i32], i: usize, b: &[i32], j: usize) -> Nesting
-    requires { ⌜ (i + 6 ≤ length (now a)) × (j + 6 ≤ length (now b)) ⌝ }
-    ensures { λ r. ⌜ r ≡ nesting (zoneAt (now (a .entry)) i) (zoneAt (now (b .entry)) j) ⌝ }
-{
-    if !word_at_most(a, i, b, j) {
-        if included(b, j, a, i) {
-            return Nesting::Around;
-        }
-        return Nesting::Apart;
-    }
-    if !word_at_most(b, j, a, i) {
-        if included(a, i, b, j) {
-            return Nesting::Inside;
-        }
-        return Nesting::Apart;
-    }
-    if included(a, i, b, j) {
-        return Nesting::Inside;
-    }
-    if included(b, j, a, i) {
-        return Nesting::Around;
-    }
-    Nesting::Apart
 }

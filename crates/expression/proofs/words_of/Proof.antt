@@ -1,7 +1,8 @@
 -- `words_of` meets its contract. Assumes nothing.
 use mathlib.Core.Path.{sym, ap, _∙_}
 use Rattle.expression.specs.declared.Upper.{Upper}
-use Rattle.expression.specs.declared.Node.the-variants.{Band}
+use Rattle.expression.specs.Expression.{Sign, Join, Unary, Band}
+use Rattle.expression.specs.declared.Node.the-variants.{Literal, Joined, Applied}
 use Rattle.expression.specs.Stored.{decoded}
 use borrow.Author.Needs.{needs}
 use Rattle.expression.proofs.words_of.Statement.{statement}
@@ -13,40 +14,43 @@ returns c = sym (c .enum-told .given .1)
 
 returns-2 : tie.Need-returns-2
 unfolding decoded
-returns-2 c = sym (c .before .node .given .1)
+returns-2 c = let n = c .before .before .before .node .given in ap (λ (s : Sign). Literal s (n .0 .1 .0)) (sym (c .enum-told2 .given .1)) ∙ sym (n .1)
 
 returns-3 : tie.Need-returns-3
 unfolding decoded
-returns-3 c = sym (c .before .node2 .given .1)
+returns-3 c = let n = c .before .before .before .node .given in ap (λ (s : Sign). Literal s (n .0 .1 .0)) (sym (c .enum-told3 .given .1)) ∙ sym (n .1)
 
 returns-4 : tie.Need-returns-4
 unfolding decoded
-returns-4 c = sym (c .before .node3 .given .1)
+returns-4 c = let n = c .before .before .before .node2 .given in ap (λ (j : Join). Joined j (n .0 .1 .0) (n .0 .1 .1 .0)) (sym (c .enum-told4 .given .1)) ∙ sym (n .1)
 
 returns-5 : tie.Need-returns-5
 unfolding decoded
-returns-5 c = sym (c .before .node4 .given .1)
+returns-5 c = let n = c .before .before .before .node2 .given in ap (λ (j : Join). Joined j (n .0 .1 .0) (n .0 .1 .1 .0)) (sym (c .enum-told5 .given .1)) ∙ sym (n .1)
 
 returns-6 : tie.Need-returns-6
 unfolding decoded
-returns-6 c = sym (c .before .node5 .given .1)
+returns-6 c = let n = c .before .before .before .node2 .given in ap (λ (j : Join). Joined j (n .0 .1 .0) (n .0 .1 .1 .0)) (sym (c .enum-told6 .given .1)) ∙ sym (n .1)
 
 returns-7 : tie.Need-returns-7
 unfolding decoded
-returns-7 c = sym (c .before .node6 .given .1)
+returns-7 c = let n = c .before .before .before .node3 .given in ap (λ (u : Unary). Applied u (n .0 .1 .0)) (sym (c .enum-told7 .given .1)) ∙ sym (n .1)
 
 returns-8 : tie.Need-returns-8
 unfolding decoded
-returns-8 c = ap (λ (h : Upper). Band (c .before .before .before .before .node7 .given .0 .0) (record { lo = c .before .before .before .before .node7 .given .0 .1 .0 .lo; hi = h })) (sym (c .before .hi .given .1)) ∙ sym (c .before .before .before .before .node7 .given .1)
+returns-8 c = let m = c .before .before .before .before in let n = m .before .before .before .node3 .given in ap (λ (h : Upper). Applied (Band (record { lo = m .op .given .0 .0 .lo; hi = h })) (n .0 .1 .0)) (sym (c .before .hi .given .1)) ∙ ap (λ (u : Unary). Applied u (n .0 .1 .0)) (sym (m .op .given .1)) ∙ sym (n .1)
 
 returns-9 : tie.Need-returns-9
 unfolding decoded
-returns-9 c = ap (λ (h : Upper). Band (c .before .before .before .node7 .given .0 .0) (record { lo = c .before .before .before .node7 .given .0 .1 .0 .lo; hi = h })) (sym (c .enum-told2 .given .1)) ∙ sym (c .before .before .before .node7 .given .1)
+returns-9 c = let m = c .before .before .before in let n = m .before .before .before .node3 .given in ap (λ (h : Upper). Applied (Band (record { lo = m .op .given .0 .0 .lo; hi = h })) (n .0 .1 .0)) (sym (c .enum-told8 .given .1)) ∙ ap (λ (u : Unary). Applied u (n .0 .1 .0)) (sym (m .op .given .1)) ∙ sym (n .1)
 
 pub words-of-spec : {M : Type 1} → statement M
 words-of-spec =
     tie.close
     (tie.spec
+    (λ c. search needs)
+    (λ c. search needs)
+    (λ c. search needs)
     (λ c. search needs)
     (λ c. search needs)
     (λ c. search needs)

@@ -13,31 +13,31 @@ use Rattle.finder.proofs.work_out.Tie as tie
 returns-2 : tie.Need-returns-2
 returns-2 c = λ e p. (
   omega (arith, c .before .before .before .before .before .before .before .before .if1 .left),
-  rw (c .before .before .before .enum-told .given .1) at (c .before .before .before .before .before .before .eval .ensures .0 e p),
-  record { answer-kept = refl; work-cleared = c .before .clear .ensures ∙ cleared-kept (c .before .before .before .before .before .before .eval .ensures .1) (omega arith) },
+  rw (c .before .before .before .enum-told .given .1) at (c .before .before .before .before .before .before .evaluate .ensures .0 e p),
+  record { answer-kept = refl; work-cleared = c .before .clear .ensures ∙ cleared-kept (c .before .before .before .before .before .before .evaluate .ensures .1) (omega arith) },
 )
 
 returns-3 : tie.Need-returns-3
-returns-3 c = λ e p. let s = rw (c .before .before .before .before .before .count .given .1) at (c .before .before .before .before .before .before .before .before .eval .ensures .0 e p) in
+returns-3 c = λ e p. let s = rw (c .before .before .before .before .before .count .given .1) at (c .before .before .before .before .before .before .before .before .evaluate .ensures .0 e p) in
     record {
       enough = omega (arith, c .before .before .before .before .before .before .before .before .before .before .if1 .left);
       list = s .list;
       rounds = c .before .before .before .before .before .count .given .0 .1 .0;
       means = s .means;
       short = omega (arith, s .holds .count, c .before .before .before .if2 .taken);
-      buffers = record { answer-kept = refl; work-cleared = c .before .clear2 .ensures ∙ cleared-kept (c .before .before .before .before .before .before .before .before .eval .ensures .1) (omega arith) };
+      buffers = record { answer-kept = refl; work-cleared = c .before .clear2 .ensures ∙ cleared-kept (c .before .before .before .before .before .before .before .before .evaluate .ensures .1) (omega arith) };
     }
 
 deliver-requires : tie.Need-deliver-requires
 deliver-requires c κs =
     let start = c .before .before .before .before .before .before .before .before .before .before .before .before in
     let the-if1 = c .before .before .before .before .before .before .before .before .before .if1 in
-    let the-eval = c .before .before .before .before .before .before .before .eval in
-    let r = start .pre .1 in let s = rw (c .before .before .before .before .count .given .1) at (the-eval .ensures .0 (r .expression) (r .planted)) in
-    (omega (arith, s .holds .few, the-eval .ensures .1 .same-length, the-if1 .left), omega (arith, c .before .before .if2 .left))
+    let the-evaluate = c .before .before .before .before .before .before .before .evaluate in
+    let r = start .pre .1 in let s = rw (c .before .before .before .before .count .given .1) at (the-evaluate .ensures .0 (r .expression) (r .planted)) in
+    (omega (arith, s .holds .few, the-evaluate .ensures .1 .same-length, the-if1 .left), omega (arith, c .before .before .if2 .left))
 
 returns-4 : tie.Need-returns-4
-returns-4 c = λ e p. let s = rw (c .before .before .before .before .before .before .before .before .before .count .given .1) at (c .before .before .before .before .before .before .before .before .before .before .before .before .eval .ensures .0 e p) in
+returns-4 c = λ e p. let s = rw (c .before .before .before .before .before .before .before .before .before .count .given .1) at (c .before .before .before .before .before .before .before .before .before .before .before .before .evaluate .ensures .0 e p) in
     record {
       enough = omega (arith, c .before .before .before .before .before .before .before .before .before .before .before .before .before .before .if1 .left);
       list = s .list;
@@ -45,7 +45,7 @@ returns-4 c = λ e p. let s = rw (c .before .before .before .before .before .bef
       count = s .holds .count;
       fits = omega (arith, s .holds .count, c .before .before .before .before .before .before .before .if2 .left);
       answer-filled = c .before .before .before .before .deliver .ensures ∙ ap (λ (L : List Zone). fronted (words L) (now (c .before .before .before .before .before .before .before .before .before .before .before .before .before .before .before .before .before .args .answer))) (s .holds .zones);
-      work-cleared = c .before .clear3 .ensures ∙ cleared-kept (c .before .before .before .before .before .before .before .before .before .before .before .before .eval .ensures .1) (omega arith);
+      work-cleared = c .before .clear3 .ensures ∙ cleared-kept (c .before .before .before .before .before .before .before .before .before .before .before .before .evaluate .ensures .1) (omega arith);
     }
 
 pub work-out-spec : {M : Type 1} → statement M

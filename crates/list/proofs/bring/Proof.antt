@@ -1,4 +1,4 @@
-use Rattle.list.proofs.Answers.{copy-kept, copy-order}
+use Rattle.list.proofs.Copies.{copy-kept, copy-order}
 use Rattle.list.proofs.Slots.{kept-refl, listAt-copied}
 use Rattle.list.specs.Slots.{listAt}
 use native.Mathlib.Omega.{arith}

@@ -3,7 +3,7 @@ use mathlib.Core.Path.{_≡_, sym, _∙_}
 use mathlib.Core.Logic.{⊎-elim}
 use Prim.Native.Nat.{_-_, _≤_}
 use native.Mathlib.Omega.{arith}
-use Rattle.zone.specs.Words.{zoneAt}
+use Rattle.words.specs.Words.{zoneAt}
 use Rattle.zone.proofs.Laws.{nesting-inside, nesting-around}
 use Rattle.list.specs.Steps.{LookAs}
 use Rattle.list.proofs.Scan.{none-seen, held-here, look-on}

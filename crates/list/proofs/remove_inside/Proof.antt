@@ -1,6 +1,6 @@
 use Rattle.list.specs.Steps.{Sifting}
 use Rattle.list.proofs.Scan.{sift-step, sift-end}
-use Rattle.zone.specs.Words.{zoneAt}
+use Rattle.words.specs.Words.{zoneAt}
 use native.Mathlib.Omega.{arith}
 use Prim.Native.Nat.{_-_}
 use Rattle.list.proofs.remove_inside.Statement.{statement}

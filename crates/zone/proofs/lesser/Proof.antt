@@ -1,7 +1,7 @@
 use mathlib.Core.Path.{_∙_}
 use mathlib.Core.Bool.{true, false}
 use Rattle.signed.proofs.Machine.{back}
-use Rattle.zone.proofs.Words.{lesser-word}
+use Rattle.zone.proofs.Coding.{lesser-word}
 use Rattle.zone.proofs.lesser.Statement.{statement}
 use Rattle.zone.proofs.lesser.Tie as tie
 

@@ -1,0 +1,28 @@
+-- `apply` meets its contract: the function for each case. Assumes nothing.
+use borrow.Author.Needs.{needs}
+use Rattle.evaluation.proofs.apply.Statement.{statement}
+use Rattle.evaluation.proofs.apply.Tie as tie
+
+banded-requires : tie.Need-banded-requires
+banded-requires c κs =
+    let start = c .before .before .before .before in
+    (start .pre .0, start .pre .1, start .pre .2, start .pre .3, rw (c .before .before .op .given .1) at (start .pre .5))
+
+returns : tie.Need-returns
+returns c = (rw (c .before .before .before .enum-told .given .1) (c .before .star .ensures .0), c .before .star .ensures .1)
+
+returns-2 : tie.Need-returns-2
+returns-2 c = (rw (c .before .before .before .before .op .given .1) (c .before .banded .ensures .0), c .before .banded .ensures .1)
+
+pub apply-spec : {M : Type 1} → statement M
+apply-spec =
+    tie.close
+    (tie.spec
+    (λ c. search needs)
+    (λ c κs. search needs)
+    (λ c. search needs)
+    banded-requires
+    (λ c. search needs)
+    returns
+    (λ c. search needs)
+    returns-2)

@@ -1,0 +1,115 @@
+-- The marked set, computed from R's bytes and the drills' texts.
+use mathlib.Core.Path.{_≡_, refl, sym, subst}
+use mathlib.Core.Bool.{true, false}
+use mathlib.Core.List.{List, [], _∷_, _++_, List·Memᴰ, List·Memᴰ·head, List·Memᴰ·tail, List·Memᴰ·not-nil as not-nil}
+use Prim.Native.Nat.{ℕ, _*_, _≤_}
+use native.Mathlib.Omega.{arith}
+use borrow.Author.Tests.{ltb-true, ltb-false, leb-true}
+use lib.Dec.{leb, ltb}
+use lib.IntN.{ℤ}
+use lib.ListN.{length}
+use Rattle.zone.specs.declared.Zone.{Zone}
+use Rattle.zone.specs.Limit.{lesser, _⊕_}
+use Rattle.zone.specs.Zone.{tighter, where-room, tighten, both, meet, joined, compose, run, diagonal, everything, limited, band as bandOf}
+use Rattle.list.specs.Insert.{covered, outside, insert, insert-each}
+use Rattle.operators.specs.Operators.{union as unite, pairs, meets, compositions, banded}
+use Rattle.recording.specs.Reading.{tick, le16, le32, ticks, channels}
+use Rattle.recording.specs.Levels.{Shows}
+use Rattle.recording.specs.Runs.{Runs}
+use Rattle.recording.specs.declared.Run.{Run}
+use Rattle.recording.specs.declared.Reading.the-variants.{Recorded}
+use Rattle.recording.proofs.Examples.{R as example}
+use Rattle.expression.specs.Expression.{Expression, depth}
+use Rattle.expression.specs.Refusal.{Accepted}
+use Rattle.expression.specs.Descent.{yes, branch, bind, starts, rest, expect, ranged, digits, number, upper, limits, marks, joining, read, height, descent}
+use Rattle.expression.specs.declared.Join.the-variants.{Union as bars}
+use Rattle.expression.specs.Readers.{width, wrong}
+use Rattle.expression.proofs.Complete.{whole-sound}
+use Rattle.expression.proofs.Answers.{right-length, accepted}
+use Rattle.evaluation.specs.Lists.{value, ended, Then.goes, runZones, Letter, Evaluates}
+use Rattle.finder.specs.declared.Outcome.the-variants.{Finished}
+use Rattle.finder.specs.Outcome.{Comes, room, words, fronted, cleared, FindAs}
+use Rattle.marked.specs.Marked.{R, Row, marked, Gives, Holds}
+use Rattle.finder.proofs.Turned.{recordings, drills, NoneOf, recording-call, drill-none, accepted-call}
+use Rattle.finder.proofs.Calls.{find-unique}
+
+-- ---- a drill
+
+-- what causes 4, 6, 7 and 8 ask, as tests
+abbrev Passes : List ℕ → Expression → Type 0
+Passes text e =
+    ltb 0 (length text) ∷ ltb 255 (length text) ∷ leb (width e) (channels R) ∷ wrong e ∷ leb (depth e) 16 ∷ []
+    ≡ true ∷ false ∷ true ∷ false ∷ true ∷ []
+
+-- A text that is read as an expression and passes the tests is accepted ..
+passed : {text : List ℕ} {e : Expression} → descent (joining bars) text ≡ yes e [] → Passes text e → Accepted text (channels R) e
+passed {text} {e} form pass =
+    let a : ltb 0 (length text) ≡ true = cc in
+    let b : ltb 255 (length text) ≡ false = cc in
+    let c : leb (width e) (channels R) ≡ true = cc in
+    let d : wrong e ≡ false = cc in
+    let f : leb (depth e) 16 ≡ true = cc in
+    let some = ltb-true 0 (length text) a in
+    accepted (right-length text (λ n. omega arith) (ltb-false _ _ b)) (whole-sound text e form) (leb-true _ _ c) d (leb-true _ _ f)
+
+-- .. and a call on it, with room for the list that it comes to, has one result.
+gives : {text : List ℕ} {e : Expression} {L : List Zone} {r : ℕ} → descent (joining bars) text ≡ yes e [] → Passes text e
+    → Evaluates (Shows R) 0 (ticks R) e (value L r)
+    → (answer work : List ℤ) → length L * 6 ≤ length answer → room ≤ length work → Gives text 0 r L answer work
+gives {text} {e} {L} {r} form pass evaluates answer work long roomy =
+    record { outcome = Finished (length L) r; returns = refl; call = call; only = λ o a w h. find-unique h call }
+  where
+    taken : Accepted text (channels R) e
+    taken = passed form pass
+
+    comes : Comes R text (value L r)
+    comes = record { drill = e; form = taken .form; evaluates = evaluates }
+
+    none : NoneOf R text (length answer) (length work) (recordings ++ drills)
+    none = drill-none R text (length answer) (length work) (recording-call R text (length answer) (length work) (Recorded _) (example .read)) taken
+
+    call : FindAs R text answer work (Finished (length L) r) (fronted (words L) answer) (cleared work)
+    call =
+        record {
+          outcome = accepted-call R text (length answer) (length work) none roomy comes long;
+          buffers = record { list = L; comes = comes; count = refl; answer-filled = refl; work-cleared = refl };
+        }
+
+-- The list of a letter, from its runs.
+spelt : {P : ℕ → Type 0} {rs : List Run} → Runs P 0 (ticks R) rs → Letter P 0 (ticks R) (ended (insert-each (runZones rs) []) 0)
+spelt m = record { runs = _; maximal = m; built = refl }
+
+-- ---- the table
+
+-- every row of a list holds
+infixr 30 _⨾_
+data All : List Row → Type 0 where
+  done : All []
+  _⨾_ : {x : Row} {xs : List Row} → Holds x → All xs → All (x ∷ xs)
+
+each : {x : Row} {xs : List Row} → All xs → List·Memᴰ x xs → Holds x
+each done m = absurd (not-nil m)
+each (h ⨾ hs) (List·Memᴰ·head e) = subst Holds (sym e) h
+each (h ⨾ hs) (List·Memᴰ·tail m) = each hs m
+
+-- Every row of the table holds. A drill's proof is that its text is read, that it passes the tests, and how its list comes of those of `a` and
+-- `!a`; the rest is computed.
+pub marked-set : (x : Row) → List·Memᴰ x marked → Holds x
+unfolding tick le32 le16 descent read height branch bind starts rest expect ranged digits number upper limits marks width wrong depth
+    lesser _⊕_ tighter where-room tighten both meet joined compose run diagonal everything limited bandOf covered outside insert insert-each unite pairs meets compositions banded
+marked-set x =
+    let a = spelt (example .highs-are) in
+    let not-a = spelt (example .lows-are) in
+    each
+    (gives refl refl a
+    ⨾ gives refl refl (goes a (goes a refl))
+    ⨾ gives refl refl (goes a (goes a refl))
+    ⨾ gives refl refl (goes a (goes not-a refl))
+    ⨾ gives refl refl (goes a refl)
+    ⨾ gives refl refl (goes a refl)
+    ⨾ gives refl refl (goes a refl)
+    ⨾ gives refl refl (goes a (goes not-a refl))
+    ⨾ gives refl refl refl
+    ⨾ refl
+    ⨾ refl
+    ⨾ done)

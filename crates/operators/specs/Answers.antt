@@ -1,0 +1,27 @@
+-- What an operator answers, in the slots of a buffer.
+use mathlib.Core.Path.{_≡_}
+use mathlib.Core.List.{List}
+use Prim.Native.Nat.{ℕ}
+use lib.IntN.{ℤ}
+use Rattle.zone.specs.declared.Zone.{Zone}
+use Rattle.zone.specs.declared.MaybeZone.{MaybeZone}
+use Rattle.zone.specs.declared.MaybeZone.the-variants.{Zone as zone, Empty as empty}
+use Rattle.zone.specs.Zone.{Proper}
+use Rattle.list.specs.Insert.{Built, listed, overfull}
+use Rattle.operators.specs.declared.Listed.{Listed}
+use Rattle.operators.specs.declared.Listed.the-variants.{Count, Overfull}
+use Rattle.list.specs.Slots.{Holds}
+
+abbrev pub SoundBand : MaybeZone → Type 0
+SoundBand (zone z) = Proper 0 1_000_000 z
+SoundBand empty = Unit {0}
+
+-- what an operator answers, where the rule comes to `built`: the slot at `target` holds the list, or one would have 129 zones
+pub record Listing (built : Built) (vs : List ℤ) (target n : ℕ) : Type 0 where
+  pub list : List Zone
+  pub value : built ≡ listed list
+  pub holds : Holds vs target n list
+
+abbrev pub BuiltAs : Built → List ℤ → ℕ → Listed → Type 0
+BuiltAs built vs target (Count n) = Listing built vs target n
+BuiltAs built vs target Overfull = built ≡ overfull

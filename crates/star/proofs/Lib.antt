@@ -1,0 +1,7 @@
+pub mod Rounds
+pub mod Composed
+pub mod Bound
+pub mod Members
+pub mod Theorems
+pub mod Answers
+pub mod Turning

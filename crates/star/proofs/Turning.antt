@@ -1,0 +1,115 @@
+-- The loop of a star's rounds, which go from one of two slots to the other.
+use mathlib.Core.Path.{_≡_, refl, sym, subst, _∙_}
+use mathlib.Core.Logic.{_⊎_, inl, inr}
+use mathlib.Core.List.{List}
+use Prim.Native.Nat.{ℕ, suc, _+_, _*_, _≤_, _<_}
+use native.Mathlib.Omega.{arith}
+use native.Mathlib.Numerals.{add-one}
+use lib.IntN.{ℤ}
+use lib.ListN.{length}
+use Rattle.zone.specs.declared.Zone.{Zone}
+use Rattle.words.specs.Words.{word}
+use Rattle.list.specs.Insert.{listed, overfull}
+use Rattle.star.specs.Star.{finished, burst, Rounds, round}
+use Rattle.list.specs.Slots.{listAt, Source, Holds, Kept, KeptBoth, Disjoint, Sound}
+use Rattle.star.specs.Steps.{Changes, Ending}
+use Rattle.star.proofs.Rounds.{After, After.begin as begin, After.turn as turn, after-proper, after-last, after-over}
+use Rattle.star.proofs.Bound.{after-bound}
+use Rattle.list.proofs.Slots.{listAt-length, listAt-same, list-there}
+use Rattle.list.proofs.Puts.{holds-same}
+use Rattle.list.proofs.Copies.{kept-neither}
+
+-- the list stands in one of the two slots, and the next round goes to the other
+abbrev pub Facing : ℕ → ℕ → ℕ → ℕ → Type 0
+Facing first second list copy = ((list ≡ first) × (copy ≡ second)) ⊎ ((list ≡ second) × (copy ≡ first))
+
+-- `made` rounds have changed the inner list into the n zones at `list`
+pub record Turning (inner m first second : ℕ) (ws₀ ws : List ℤ) (list copy n made : ℕ) : Type 0 where
+  pub few : n ≤ 128
+  pub place : Facing first second list copy
+  pub frame : KeptBoth first second ws₀ ws
+  pub after : After (listAt ws₀ inner m) made (listAt ws list n)
+
+turned : {first second list copy : ℕ} → Facing first second list copy → Facing first second copy list
+turned (inl p) = inr (p .1, p .0)
+turned (inr p) = inl (p .1, p .0)
+
+swap : {a b : ℕ} → Disjoint a b → Disjoint b a
+swap (inl h) = inr h
+swap (inr h) = inl h
+
+at-list : {first second list copy : ℕ} (P : ℕ → ℕ → Type 0) → Facing first second list copy → P first second → P second first → P list copy
+at-list {first} {copy = copy} P (inl p) x y = subst (λ (k : ℕ). P k copy) (sym (p .0)) (subst (λ (j : ℕ). P first j) (sym (p .1)) x)
+at-list {second = second} {copy = copy} P (inr p) x y = subst (λ (k : ℕ). P k copy) (sym (p .0)) (subst (λ (j : ℕ). P second j) (sym (p .1)) y)
+
+module _ {inner m first second : ℕ} {ws₀ : List ℤ} (source : Source ws₀ inner m) (d₁ : Disjoint inner first) (d₂ : Disjoint inner second) (d₃ : Disjoint first second) where
+  pub turn-start : listAt ws₀ first m ≡ listAt ws₀ inner m → Turning inner m first second ws₀ ws₀ first second m 0
+  turn-start e = record { few = source .few; place = inl (refl, refl); frame = kept-neither first second ws₀; after = subst (After (listAt ws₀ inner m) 0) (sym e) begin }
+
+  module _ {ws : List ℤ} {list copy n made : ℕ} (t : Turning inner m first second ws₀ ws list copy n made) where
+    pub turn-apart : Disjoint list copy
+    turn-apart = at-list Disjoint (t .place) d₃ (swap d₃)
+
+    pub turn-inner : Disjoint inner copy
+    turn-inner = at-list (λ k j. Disjoint inner j) (t .place) d₂ d₁
+
+    pub turn-room : first + 768 ≤ length ws₀ → second + 768 ≤ length ws₀ → (list + 768 ≤ length ws) × (copy + 768 ≤ length ws)
+    turn-room a b = at-list (λ k j. (k + 768 ≤ length ws) × (j + 768 ≤ length ws)) (t .place) (omega (arith, t .frame .same-length), omega (arith, t .frame .same-length)) (omega (arith, t .frame .same-length), omega (arith, t .frame .same-length))
+
+    -- the inner list is where it was
+    pub inner-same : listAt ws inner m ≡ listAt ws₀ inner m
+    inner-same = listAt-same ws₀ ws inner inner m (λ k h. t .frame .others (inner + k) (clear d₁ h (source .few)) (clear d₂ h (source .few)))
+      where
+        clear : {a k : ℕ} → Disjoint inner a → k < m * 6 → m ≤ 128 → (inner + k < a) ⊎ (a + 768 ≤ inner + k)
+        clear (inl h) l f = inl (omega arith)
+        clear (inr h) l f = inr (omega arith)
+
+    pub turn-sound : Sound (listAt ws list n)
+    turn-sound = after-proper (source .sound) (t .after)
+
+    pub turn-source : Source ws inner m
+    turn-source = record { few = source .few; room = omega (arith, source .room, t .frame .same-length); sound = subst Sound (sym inner-same) (source .sound) }
+
+    -- the loop's measure, by the bound on rounds and nothing else
+    pub turn-bound : suc made ≤ m + 1_000_000
+    turn-bound = let b = after-bound (source .sound) (omega arith) (t .after) in omega (arith, listAt-length ws₀ inner m)
+
+    pub turn-kept : {vs : List ℤ} → Kept copy 768 ws vs → KeptBoth first second ws₀ vs
+    turn-kept {vs} k =
+        record {
+          same-length = k .same-length ∙ t .frame .same-length;
+          others = λ i a b. at-list (λ l c. Kept c 768 ws vs → word vs i ≡ word ws i) (t .place) (outside b) (outside a) k ∙ t .frame .others i a b;
+        }
+      where
+        outside : {c i : ℕ} → (i < c) ⊎ (c + 768 ≤ i) → Kept c 768 ws vs → word vs i ≡ word ws i
+        outside (inl h) w = w .below _ h
+        outside (inr h) w = w .above _ h
+
+    at-home : (r : List Zone → Type 0) → r (listAt ws inner m) → r (listAt ws₀ inner m)
+    at-home r = subst r inner-same
+
+    -- a round that changed something
+    pub turn-next : {vs : List ℤ} {k : ℕ} → Changes (listAt ws inner m) (listAt ws list n) vs copy k → Kept copy 768 ws vs → Turning inner m first second ws₀ vs copy list k (made + 1)
+    turn-next {vs} {k} c f =
+        record {
+          few = c .holds .few;
+          place = turned (t .place);
+          frame = turn-kept f;
+          after =
+              subst (λ (L : List Zone). After (listAt ws₀ inner m) (made + 1) L) (sym (c .holds .zones))
+              (subst (λ (j : ℕ). After (listAt ws₀ inner m) j (c .list)) (sym (add-one made))
+              (turn (t .after) (at-home (λ I. round I (listAt ws list n) ≡ listed (c .list)) (c .value)) (c .new)));
+        }
+
+    -- the last round
+    pub turn-end : {vs : List ℤ} → round (listAt ws inner m) (listAt ws list n) ≡ listed (listAt ws list n) → Kept copy 768 ws vs → Ending (listAt ws₀ inner m) first second vs list n (made + 1)
+    turn-end {vs} e f =
+        record {
+          list = listAt ws list n;
+          value = subst (λ (j : ℕ). Rounds (listAt ws₀ inner m) (listAt ws₀ inner m) (finished j (listAt ws list n))) (sym (add-one made)) (after-last (t .after) (at-home (λ I. round I (listAt ws list n) ≡ listed (listAt ws list n)) e));
+          holds = subst (Holds vs list n) (list-there list n f turn-apart (t .few)) (holds-same vs list n (t .few));
+          place = at-list (λ l c. (l ≡ first) ⊎ (l ≡ second)) (t .place) (inl refl) (inr refl);
+        }
+
+    pub turn-over : round (listAt ws inner m) (listAt ws list n) ≡ overfull → Rounds (listAt ws₀ inner m) (listAt ws₀ inner m) burst
+    turn-over e = after-over (t .after) (at-home (λ I. round I (listAt ws list n) ≡ overfull) e)

@@ -1,0 +1,37 @@
+-- What the private functions answer. No public contract cites it.
+use mathlib.Core.Path.{_≡_}
+use mathlib.Core.Logic.{_⊎_}
+use mathlib.Core.List.{List}
+use Prim.Native.Nat.{ℕ}
+use lib.IntN.{ℤ}
+use Rattle.zone.specs.declared.Zone.{Zone}
+use Rattle.list.specs.Insert.{listed, overfull}
+use Rattle.star.specs.Star.{finished, burst, Rounds, round}
+use Rattle.list.specs.Slots.{Holds}
+use Rattle.star.specs.declared.Round.{Round}
+use Rattle.star.specs.declared.Round.the-variants.{Same, Changed, Exceeded}
+use Rattle.star.specs.declared.Ended.{Ended}
+use Rattle.star.specs.declared.Ended.the-variants.{EndedAt, EndedOver}
+
+-- one round from the list L, into the slot at `copy`
+pub record Changes (inner L : List Zone) (vs : List ℤ) (copy n : ℕ) : Type 0 where
+  pub list : List Zone
+  pub value : round inner L ≡ listed list
+  pub new : ¬ (list ≡ L)
+  pub holds : Holds vs copy n list
+
+abbrev pub RoundAs : List Zone → List Zone → List ℤ → ℕ → Round → Type 0
+RoundAs inner L vs copy Same = round inner L ≡ listed L
+RoundAs inner L vs copy (Changed n) = Changes inner L vs copy n
+RoundAs inner L vs copy Exceeded = round inner L ≡ overfull
+
+-- all rounds: the last list stands at `at`, one of the two slots
+pub record Ending (inner : List Zone) (a b : ℕ) (vs : List ℤ) (at n rounds : ℕ) : Type 0 where
+  pub list : List Zone
+  pub value : Rounds inner inner (finished rounds list)
+  pub holds : Holds vs at n list
+  pub place : (at ≡ a) ⊎ (at ≡ b)
+
+abbrev pub EndsAs : List Zone → ℕ → ℕ → List ℤ → Ended → Type 0
+EndsAs inner a b vs (EndedAt at n rounds) = Ending inner a b vs at n rounds
+EndsAs inner a b vs EndedOver = Rounds inner inner burst
