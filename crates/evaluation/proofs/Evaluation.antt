@@ -8,9 +8,9 @@ use Rattle.zone.specs.declared.MaybeZone.{MaybeZone}
 use Rattle.zone.specs.declared.MaybeZone.the-variants.{Zone as zone}
 use Rattle.zone.specs.Zone.{Proper, run, diagonal}
 use Rattle.zone.proofs.Laws.{proper-run, proper-diagonal}
-use Rattle.list.specs.Insert.{Built, listed, overfull, insert-each}
+use Rattle.list.specs.Insert.{Built, listed, overflow, insert-each}
 use Rattle.operators.specs.Operators.{union as unite, meets, compositions, banded}
-use Rattle.star.specs.Star.{Outcome, finished, burst, Star as Stars}
+use Rattle.star.specs.Star.{Closure, finished, overflow, Star as Stars}
 use Rattle.list.proofs.Theorems.{WellFormed, built-well}
 use Rattle.operators.proofs.Theorems.{union-well, meets-well, compositions-well, banded-well}
 use Rattle.star.proofs.Theorems.{star-well, star-unique, star-exists}
@@ -22,7 +22,7 @@ use Rattle.expression.specs.declared.Join.the-variants.{Union, Intersection, Co
 use Rattle.expression.specs.declared.Unary.the-variants.{Star, Band}
 use Rattle.expression.specs.Expression.{Expression, epsilon, literal, join, unary}
 use Rattle.evaluation.specs.Satisfies.{levelOf}
-use Rattle.evaluation.specs.Lists.{Value, value, overflow, ended, starred, Then, Then.goes, Then.stops, Both, runZones, Letter, rangeBand, Closes, joined, Evaluates}
+use Rattle.evaluation.specs.Lists.{Value, value, overflow, ended, starred, Then, Then.goes, Then.stops, Both, runZones, Letter, rangeBand, Closes, joinList, Evaluates}
 
 -- levels of finite variability on ticks from..to: those of each channel and level make a list of maximal runs
 abbrev pub FiniteVariability : (Shows : ℕ → Level → ℕ → Type 0) (from to : ℕ) → Type 0
@@ -55,14 +55,14 @@ letter-one : {P : ℕ → Type 0} {from to : ℕ} → One (Letter P from to)
 letter-one v w p q = p .built ∙ ap (λ (rs : List Run). ended (insert-each (runZones rs) []) 0) (runs-unique (p .maximal) (q .maximal)) ∙ sym (q .built)
 
 closes-one : {from to : ℕ} (A : List Zone) (r : ℕ) → One (Closes from to A r)
-closes-one A r v w p q = p .built ∙ ap (λ (o : Outcome). starred o r) (star-unique (p .star) (q .star)) ∙ sym (q .built)
+closes-one A r v w p q = p .built ∙ ap (λ (o : Closure). starred o r) (star-unique (p .star) (q .star)) ∙ sym (q .built)
 
 module _ (Shows : ℕ → Level → ℕ → Type 0) (from to : ℕ) where
   -- An expression comes to no two values: recording and drill alone decide the lists and the rounds.
   pub evaluates-unique : (e : Expression) (v w : Value) → Evaluates Shows from to e v → Evaluates Shows from to e w → v ≡ w
   evaluates-unique epsilon v w p q = p ∙ sym q
   evaluates-unique (literal s k) v w p q = letter-one v w p q
-  evaluates-unique (join j e f) v w p q = both-one (joined j) (evaluates-unique e) (evaluates-unique f) v w p q
+  evaluates-unique (join j e f) v w p q = both-one (joinList j) (evaluates-unique e) (evaluates-unique f) v w p q
   evaluates-unique (unary Star e) v w p q = then-one (evaluates-unique e) closes-one v w p q
   evaluates-unique (unary (Band r) e) v w p q = then-one (evaluates-unique e) (λ A s a b m n. m ∙ sym n) v w p q
 
@@ -71,7 +71,7 @@ module _ (Shows : ℕ → Level → ℕ → Type 0) (from to : ℕ) where
 -- a list that came out was built
 pub listed-of : (b : Built) {L : List Zone} {r s : ℕ} → value L r ≡ ended b s → (b ≡ listed L) × (r ≡ s)
 listed-of (listed M) e = (cc, cc)
-listed-of overfull e = clash e
+listed-of overflow e = clash e
 
 -- an operand with a list, and what came of it
 pub then-parts : {operand : Value → Type 0} {next : List Zone → ℕ → Value → Type 0} {L : List Zone} {t : ℕ} → Then operand next (value L t)
@@ -102,9 +102,9 @@ pub closes-parts : {from to : ℕ} {A G : List Zone} {r t : ℕ} → Closes from
     → (k : ℕ) × Stars A (diagonal from to) (finished k G) × (t ≡ r + k)
 closes-parts {from} {to} {A} {G} {r} {t} c = go (c .outcome) (c .star) (c .built)
   where
-    go : (o : Outcome) → Stars A (diagonal from to) o → value G t ≡ starred o r → (k : ℕ) × Stars A (diagonal from to) (finished k G) × (t ≡ r + k)
+    go : (o : Closure) → Stars A (diagonal from to) o → value G t ≡ starred o r → (k : ℕ) × Stars A (diagonal from to) (finished k G) × (t ≡ r + k)
     go (finished k F) s e = let q : F ≡ G = cc in (k, subst (λ (L : List Zone). Stars A (diagonal from to) (finished k L)) q s, cc)
-    go burst s e = clash e
+    go overflow s e = clash e
 
 -- the runs of a letter, and the list that was built of them
 pub letter-parts : {P : ℕ → Type 0} {from to : ℕ} {L : List Zone} {t : ℕ} → Letter P from to (value L t)
@@ -167,7 +167,7 @@ module _ {Shows : ℕ → Level → ℕ → Type 0} {from to : ℕ} (finite : Fi
   pub evaluates-exists : (e : Expression) → (v : Value) × Evaluates Shows from to e v
   evaluates-exists epsilon = (ended (insert-each (zone (diagonal from to) ∷ []) []) 0, refl)
   evaluates-exists (literal s k) = letter-some k (levelOf s)
-  evaluates-exists (join j e f) = both-some (joined j) (evaluates-exists e) (evaluates-exists f)
+  evaluates-exists (join j e f) = both-some (joinList j) (evaluates-exists e) (evaluates-exists f)
   evaluates-exists (unary Star e) =
       then-some (evaluates-exists e)
       (λ A r p. let s = star-exists (evaluates-well Shows (omega arith) e r p .proper) some (diagonal from to) in

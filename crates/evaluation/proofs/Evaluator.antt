@@ -6,7 +6,7 @@ use native.Mathlib.Omega.{arith}
 use lib.IntN.{ℤ}
 use Rattle.zone.specs.declared.Zone.{Zone}
 use Rattle.list.specs.Slots.{listAt, Sound}
-use Rattle.recording.specs.declared.Recording.{Recording}
+use Rattle.recording.specs.declared.Dimensions.{Dimensions}
 use Rattle.recording.specs.declared.Level.{Level}
 use Rattle.recording.specs.Reading.{ReadAs}
 use Rattle.recording.specs.Levels.{Shows}
@@ -19,14 +19,14 @@ use Rattle.expression.specs.Expression.{Expression, epsilon, literal, join, una
 use Rattle.expression.specs.Stored.{nodeAt}
 use Rattle.expression.specs.Planted.{Planted, Operands}
 use Rattle.expression.proofs.Laws.{operands}
-use Rattle.evaluation.specs.Lists.{Value, overflow, ended, Then.goes, Then.stops, Both, Letter, joined, applied, Evaluates}
+use Rattle.evaluation.specs.Lists.{Value, overflow, ended, Then.goes, Then.stops, Both, Letter, joinList, applied, Evaluates}
 use Rattle.evaluation.specs.Satisfies.{levelOf}
 use Rattle.evaluation.specs.Steps.{Standing, EvaluatedAs, most-rounds}
 use Rattle.evaluation.specs.declared.Evaluated.{Evaluated}
 use Rattle.evaluation.specs.declared.Evaluated.the-variants.{Listed, Overflow}
 use Rattle.evaluation.proofs.Evaluation.{evaluates-well}
 use Rattle.evaluation.proofs.Totals.{rounds-few}
-use Rattle.evaluation.proofs.Answers.{sound-within}
+use Rattle.evaluation.proofs.Standings.{sound-within}
 
 -- what node i says of its expression, as the code finds the node
 pub node-is : {ns : List ℕ} {channels i d : ℕ} {e : Expression} {n : Node} (t : Node) → n ≡ nodeAt ns i → n ≡ t → Planted ns channels i d e → Operands ns channels (d - 1) e t
@@ -38,7 +38,7 @@ evaluated-map : (P Q : Value → Type 0) (ws : List ℤ) (base : ℕ) → ((v : 
 evaluated-map P Q ws base f (Listed n k) s = record { list = s .list; means = f _ (s .means); holds = s .holds }
 evaluated-map P Q ws base f Overflow s = f overflow s
 
-module _ {bytes : List ℕ} {recording : Recording} (read : ReadAs bytes recording) where
+module _ {bytes : List ℕ} {recording : Dimensions} (read : ReadAs bytes recording) where
   -- the expression comes to the value on this recording
   abbrev pub Comes : Expression → Value → Type 0
   Comes e v = Evaluates (Shows bytes) 0 (recording .ticks) e v
@@ -84,7 +84,7 @@ module _ {bytes : List ℕ} {recording : Recording} (read : ReadAs bytes recordi
   -- ---- an operator with two operands
 
   module _ {e : Expression} (f g : Expression) (op : Join) (is : e ≡ join op f g) where
-    two-come : (v : Value) → Both (joined op) (Comes f) (Comes g) v → Comes e v
+    two-come : (v : Value) → Both (joinList op) (Comes f) (Comes g) v → Comes e v
     two-come v t = subst (λ (x : Expression). Comes x v) (sym is) t
 
     pub two-over-left : Comes f overflow → Comes e overflow
@@ -95,6 +95,6 @@ module _ {bytes : List ℕ} {recording : Recording} (read : ReadAs bytes recordi
 
     -- the left list is still there when the right one is finished
     pub two-done : {us vs : List ℤ} (ws : List ℤ) {base at n m p q : ℕ} (r : Evaluated) → Standing (Comes f) us base n p → listAt vs base n ≡ listAt us base n → Standing (Comes g) vs at m q
-        → EvaluatedAs (λ v. v ≡ ended (joined op (listAt vs base n) (listAt vs at m)) (p + q)) ws base r → EvaluatedAs (Comes e) ws base r
+        → EvaluatedAs (λ v. v ≡ ended (joinList op (listAt vs base n) (listAt vs at m)) (p + q)) ws base r → EvaluatedAs (Comes e) ws base r
     two-done ws {p = p} {q = q} r s k t a =
-        evaluated-map _ _ _ _ (λ v h. two-come v (goes (s .means) (goes (t .means) (h ∙ (λ i. ended (joined op ((k ∙ s .holds .zones) i) (t .holds .zones i)) (p + q)))))) r a
+        evaluated-map _ _ _ _ (λ v h. two-come v (goes (s .means) (goes (t .means) (h ∙ (λ i. ended (joinList op ((k ∙ s .holds .zones) i) (t .holds .zones i)) (p + q)))))) r a

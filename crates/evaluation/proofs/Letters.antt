@@ -9,9 +9,9 @@ use Rattle.zone.specs.declared.MaybeZone.{MaybeZone}
 use Rattle.zone.specs.declared.MaybeZone.the-variants.{Zone as zone}
 use Rattle.zone.specs.Zone.{Ranged, run}
 use Rattle.zone.proofs.Laws.{proper-run, ranged, ranged-more}
-use Rattle.list.specs.Insert.{Built, listed, overfull, insert-each}
+use Rattle.list.specs.Insert.{Built, listed, overflow, insert-each}
 use Rattle.list.specs.Slots.{listAt, Kept}
-use Rattle.operators.specs.Answers.{Listing}
+use Rattle.operators.specs.Listing.{Listing}
 use Rattle.operators.proofs.Loops.{then, insert-each-append}
 use Rattle.list.proofs.Puts.{holds-same}
 use Rattle.list.proofs.Slots.{kept-refl, kept-trans}
@@ -20,13 +20,13 @@ use Rattle.recording.specs.declared.Run.{Run}
 use Rattle.recording.specs.declared.Cursor.{Cursor}
 use Rattle.recording.specs.declared.Next.the-variants.{Found, None}
 use Rattle.recording.specs.Levels.{Shows}
-use Rattle.recording.specs.Runs.{Runs, Rising, Rising.next, First}
+use Rattle.recording.specs.Runs.{Runs, Rising, Rising.next, FirstRun}
 use Rattle.recording.specs.Scan.{NextRun}
 use Rattle.recording.proofs.Runs.{Scanned}
 use Rattle.recording.proofs.Handed.{Taken, taken-none, taken-more, taken-all, shows-runs}
 use Rattle.evaluation.specs.Lists.{value, overflow, ended, runZones, Letter}
 use Rattle.evaluation.specs.Steps.{Standing}
-use Rattle.evaluation.proofs.Answers.{over}
+use Rattle.evaluation.proofs.Standings.{over}
 
 -- ---- runs found up to some tick are the first of all
 
@@ -107,7 +107,7 @@ module _ (bytes : List ℕ) (channel : ℕ) (level : Level) (to : ℕ) where
           }
 
       -- whatever runs come after it
-      pub spelt-over : insert-each (zone (run (x .start) (x .end)) ∷ []) (listAt ws base count) ≡ overfull → Letter (Shows bytes channel level) 0 to overflow
+      pub spelt-over : insert-each (zone (run (x .start) (x .end)) ∷ []) (listAt ws base count) ≡ overflow → Letter (Shows bytes channel level) 0 to overflow
       spelt-over e =
           let all = shows-runs bytes channel level 0 to in
           let xs = s .runs ++ (x ∷ []) in
@@ -123,5 +123,5 @@ module _ (bytes : List ℕ) (channel : ℕ) (level : Level) (to : ℕ) where
           }
 
 -- a run within 0..to, and the numbers of its zone
-pub run-ranged : {P : ℕ → Type 0} {at to s e : ℕ} → First P at to s e → to ≤ 1_000_000 → Ranged 1_000_000 (run s e)
+pub run-ranged : {P : ℕ → Type 0} {at to s e : ℕ} → FirstRun P at to s e → to ≤ 1_000_000 → Ranged 1_000_000 (run s e)
 run-ranged {s = s} {e = e} f h = ranged-more h (ranged (proper-run {from = 0} s e (omega arith) (f .some) (f .upper)))

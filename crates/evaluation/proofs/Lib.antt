@@ -3,6 +3,6 @@ pub mod Meaning
 pub mod Evaluation
 pub mod Members
 pub mod Totals
-pub mod Answers
+pub mod Standings
 pub mod Letters
 pub mod Evaluator

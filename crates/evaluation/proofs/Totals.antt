@@ -18,7 +18,7 @@ use Rattle.recording.specs.declared.Level.{Level}
 use Rattle.expression.specs.declared.Unary.the-variants.{Star, Band}
 use Rattle.expression.specs.Expression.{Expression, epsilon, literal, join, unary, depth}
 use Rattle.evaluation.specs.Satisfies.{Stretch, Satisfies}
-use Rattle.evaluation.specs.Lists.{value, rangeBand, joined, Evaluates, repeated, Turns, Sum, Sum.none, Sum.also}
+use Rattle.evaluation.specs.Lists.{value, rangeBand, joinList, Evaluates, repeated, RoundsOf, Sum, Sum.none, Sum.also}
 use Rattle.evaluation.specs.Steps.{most-rounds}
 use Rattle.evaluation.proofs.Evaluation.{FiniteVariability, listed-of, letter-parts, then-parts, both-parts, closes-parts, evaluates-unique, evaluates-well}
 use Rattle.evaluation.proofs.Members.{pieces-members}
@@ -48,7 +48,7 @@ module _ {P : Expression → ℕ → Type 0} where
 
 module _ (Shows : ℕ → Level → ℕ → Type 0) {from to : ℕ} where
   -- A `*` has one number of rounds.
-  pub turns-unique : (f : Expression) (k l : ℕ) → Turns Shows from to f k → Turns Shows from to f l → k ≡ l
+  pub turns-unique : (f : Expression) (k l : ℕ) → RoundsOf Shows from to f k → RoundsOf Shows from to f l → k ≡ l
   turns-unique f k l p q =
       let e = evaluates-unique Shows from to f _ _ (p .list) (q .list) in
       let i : p .inner ≡ q .inner = cc in
@@ -56,17 +56,17 @@ module _ (Shows : ℕ → Level → ℕ → Type 0) {from to : ℕ} where
       cc
 
   -- The total of rounds is the sum of the rounds of every `*` written, 0 where there is none.
-  pub evaluates-sum : (e : Expression) (L : List Zone) (t : ℕ) → Evaluates Shows from to e (value L t) → Sum (Turns Shows from to) (repeated e) t
+  pub evaluates-sum : (e : Expression) (L : List Zone) (t : ℕ) → Evaluates Shows from to e (value L t) → Sum (RoundsOf Shows from to) (repeated e) t
   unfolding repeated
   evaluates-sum epsilon L t p = rw (listed-of (insert-each (zone (diagonal from to) ∷ []) []) p .1) none
   evaluates-sum (literal s k) L t p = rw (letter-parts p .3) none
   evaluates-sum (join j e f) L t p =
-      let q = both-parts (joined j) p in rw (q .total) (sum-append (evaluates-sum e _ _ (q .first)) (evaluates-sum f _ _ (q .second)))
+      let q = both-parts (joinList j) p in rw (q .total) (sum-append (evaluates-sum e _ _ (q .first)) (evaluates-sum f _ _ (q .second)))
   evaluates-sum (unary Star e) L t p =
       let q = then-parts p in
       let c = closes-parts (q .3) in
-      let w : Turns Shows from to e (c .0) = record { inner = q .0; before = q .1; list = q .2; outer = L; star = c .1 } in
-      subst (Sum (Turns Shows from to) (e ∷ repeated e)) (let h = c .2 in omega arith) (also w (evaluates-sum e _ _ (q .2)))
+      let w : RoundsOf Shows from to e (c .0) = record { inner = q .0; before = q .1; list = q .2; outer = L; star = c .1 } in
+      subst (Sum (RoundsOf Shows from to) (e ∷ repeated e)) (let h = c .2 in omega arith) (also w (evaluates-sum e _ _ (q .2)))
   evaluates-sum (unary (Band r) e) L t p =
       let q = then-parts p in rw (listed-of (banded (rangeBand from to r) (q .0)) (q .3) .1) (evaluates-sum e _ _ (q .2))
 
@@ -74,11 +74,11 @@ module _ (Shows : ℕ → Level → ℕ → Type 0) {from to : ℕ} where
 
 module _ (Shows : ℕ → Level → ℕ → Type 0) {from to : ℕ} (some : from < to) where
   -- Its rounds, the last included, are at most n + (to − from), n the number of zones of the finished inner list.
-  pub turns-bound : {f : Expression} {k : ℕ} (w : Turns Shows from to f k) → k ≤ length (w .inner) + (to - from)
+  pub turns-bound : {f : Expression} {k : ℕ} (w : RoundsOf Shows from to f k) → k ≤ length (w .inner) + (to - from)
   turns-bound {f} w = star-bound (evaluates-well Shows (omega arith) f _ (w .list) .proper) some (w .star)
 
   -- Every stretch inside from..to that satisfies it is cut into at most so many consecutive pieces that each satisfy the part repeated.
-  pub turns-pieces : FiniteVariability Shows from to → {f : Expression} {k : ℕ} (w : Turns Shows from to f k)
+  pub turns-pieces : FiniteVariability Shows from to → {f : Expression} {k : ℕ} (w : RoundsOf Shows from to f k)
       → (x y : Time) → Stretch from to x y → Satisfies Shows (unary Star f) x y
       → (n : ℕ) × (n ≤ length (w .inner) + (to - from)) × Pieces (λ u v. Satisfies Shows f u v) n x y
   turns-pieces finite {f} w x y s h =
@@ -115,7 +115,7 @@ repeated-few (unary Star e) = one-few e (repeated-few e)
 repeated-few (unary (Band r) e) = let h = one-few e (repeated-few e) in omega arith
 
 module _ (Shows : ℕ → Level → ℕ → Type 0) {from to : ℕ} (some : from < to) where
-  turns-few : (f : Expression) (k : ℕ) → Turns Shows from to f k → k ≤ 128 + (to - from)
+  turns-few : (f : Expression) (k : ℕ) → RoundsOf Shows from to f k → k ≤ 128 + (to - from)
   turns-few f k w = let h = turns-bound Shows some w in let s = evaluates-well Shows (omega arith) f _ (w .list) .short in omega arith
 
   -- So the total of rounds of an expression of depth 16, over 1,000,000 ticks, is one that the machine's numbers hold.

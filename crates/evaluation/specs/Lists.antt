@@ -10,9 +10,11 @@ use Rattle.zone.specs.declared.MaybeZone.the-variants.{Zone as zone}
 use Rattle.zone.specs.declared.Limit.{Limit}
 use Rattle.zone.specs.declared.Limit.the-variants.{AtMost}
 use Rattle.zone.specs.Zone.{run, diagonal, band as bandOf}
-use Rattle.list.specs.Insert.{Built, listed, overfull, insert-each}
+use Rattle.list.specs.Insert as puts
+use Rattle.list.specs.Insert.{Built, listed, insert-each}
 use Rattle.operators.specs.Operators.{union as unite, meets, compositions, banded}
-use Rattle.star.specs.Star.{Outcome, finished, burst, Star as Stars}
+use Rattle.star.specs.Star as rounds
+use Rattle.star.specs.Star.{Closure, finished, Star as Stars}
 use Rattle.recording.specs.declared.Level.{Level}
 use Rattle.recording.specs.declared.Run.{Run}
 use Rattle.recording.specs.Runs.{Runs}
@@ -34,11 +36,11 @@ pub data Value : Type 0 where
 -- a list that is built after r rounds; and a star's, its own rounds being added to the r before them
 abbrev pub ended : Built → ℕ → Value
 ended (listed L) r = value L r
-ended overfull r = overflow
+ended puts.overflow r = overflow
 
-abbrev pub starred : Outcome → ℕ → Value
+abbrev pub starred : Closure → ℕ → Value
 starred (finished k G) r = value G (r + k)
-starred burst r = overflow
+starred rounds.overflow r = overflow
 
 -- an operand, and what comes of its finished list and rounds; where the operand overflows, so does the whole
 pub data Then (operand : Value → Type 0) (next : List Zone → ℕ → Value → Type 0) : Value → Type 0 where
@@ -71,16 +73,16 @@ rangeBand from to r = bandOf from to (longest from to (r .hi)) (shortest (r .lo)
 
 -- the star of the operand's list A, after the operand's r rounds: "begin with the inner list", rounds, "Then the diagonal is put"
 pub record Closes (from to : ℕ) (A : List Zone) (r : ℕ) (v : Value) : Type 0 where
-  pub outcome : Outcome
+  pub outcome : Closure
   pub star : Stars A (diagonal from to) outcome
   pub built : v ≡ starred outcome r
 
 -- "`|`: put the left zones, then the right ones, into an empty list"; "`&` and `.`: for each left zone, for each right zone, put the meet (for
 -- `.` the composition)"
-abbrev pub joined : Join → List Zone → List Zone → Built
-joined Union = unite
-joined Intersection = meets
-joined Concatenation = compositions
+abbrev pub joinList : Join → List Zone → List Zone → Built
+joinList Union = unite
+joinList Intersection = meets
+joinList Concatenation = compositions
 
 -- "`*`: begin with the inner list. A round .. Then the diagonal is put"; "`{lo,hi}`: put each zone's meet with the band"
 abbrev pub applied : ℕ → ℕ → Unary → List Zone → ℕ → Value → Type 0
@@ -94,7 +96,7 @@ Evaluates Shows from to epsilon v = v ≡ ended (insert-each (zone (diagonal fro
 -- "a letter or `!`"
 Evaluates Shows from to (literal s k) v = Letter (Shows k (levelOf s)) from to v
 -- an operator with two operands, and with one
-Evaluates Shows from to (join j e f) v = Both (joined j) (Evaluates Shows from to e) (Evaluates Shows from to f) v
+Evaluates Shows from to (join j e f) v = Both (joinList j) (Evaluates Shows from to e) (Evaluates Shows from to f) v
 Evaluates Shows from to (unary u e) v = Then (Evaluates Shows from to e) (applied from to u) v
 
 -- the parts repeated, one for each `*` written in an expression
@@ -106,7 +108,7 @@ repeated (unary Star e) = e ∷ repeated e
 repeated (unary (Band r) e) = repeated e
 
 -- the `*` of f has k rounds: "The rounds of a `*` are all that this rule makes from its inner list, the last included"
-pub record Turns (Shows : ℕ → Level → ℕ → Type 0) (from to : ℕ) (f : Expression) (k : ℕ) : Type 0 where
+pub record RoundsOf (Shows : ℕ → Level → ℕ → Type 0) (from to : ℕ) (f : Expression) (k : ℕ) : Type 0 where
   pub inner : List Zone
   pub before : ℕ
   pub list : Evaluates Shows from to f (value inner before)

@@ -11,9 +11,9 @@ use expression::Upper;
 use list::Inserted;
 use operators::Listed;
 use recording::Cursor;
+use recording::Dimensions;
 use recording::Level;
 use recording::Next;
-use recording::Recording;
 use star::Starred;
 use zone::Limit;
 use zone::MaybeZone;
@@ -29,14 +29,14 @@ ghost use Rattle.zone.specs.Zone.{Ranged, diagonal};
 ghost use Rattle.list.specs.Insert.{insert-each};
 ghost use Rattle.operators.specs.Operators.{banded};
 ghost use Rattle.list.specs.Slots.{listAt, Kept, Sound, Disjoint};
-ghost use Rattle.operators.specs.Answers.{BuiltAs};
+ghost use Rattle.operators.specs.Listing.{BuiltAs};
 ghost use Rattle.recording.specs.Reading.{ReadAs};
 ghost use Rattle.recording.specs.Levels.{Shows};
 ghost use Rattle.expression.specs.Expression.{Expression};
 ghost use Rattle.expression.specs.Refusal.{Wrong};
 ghost use Rattle.expression.specs.Planted.{Planted, Right};
 ghost use Rattle.evaluation.specs.Satisfies.{levelOf};
-ghost use Rattle.evaluation.specs.Lists.{ended, longest, rangeBand, Letter, Closes, joined, applied, Evaluates};
+ghost use Rattle.evaluation.specs.Lists.{ended, longest, rangeBand, Letter, Closes, joinList, applied, Evaluates};
 ghost use Rattle.evaluation.specs.Steps.{EvaluatedAs, most-rounds, Rooted};
 
 // What an expression comes to: a list with its count and its total of rounds, or one that would have 129 zones.
@@ -54,7 +54,7 @@ fn put(work: &mut [i32], base: usize, count: usize, z: Zone) -> Listed
     match list::insert(work, base, count, z) {
         Inserted::Away => Listed::Count(count),
         Inserted::Placed(n) => Listed::Count(n),
-        Inserted::Full => Listed::Overfull,
+        Inserted::Overflow => Listed::Overflow,
     }
 }
 
@@ -73,7 +73,7 @@ fn point(work: &mut [i32], base: usize, ticks: u32) -> Evaluated
 // A letter or `!`: the maximal runs of the channel at the level, put in rising time, in the slot at `base`.
 fn letter(
     bytes: &[u8],
-    recording: Recording,
+    recording: Dimensions,
     channel: u8,
     level: Level,
     work: &mut [i32],
@@ -116,7 +116,7 @@ fn build(
     target: usize,
 ) -> Listed
     requires { ⌜ (n ≤ 128) × (m ≤ 128) × (left + 768 ≤ length (now work)) × (right + 768 ≤ length (now work)) × (target + 768 ≤ length (now work)) × (Disjoint left target) × (Disjoint right target) × (Sound (listAt (now work) left n)) × (Sound (listAt (now work) right m)) ⌝ }
-    ensures built { λ r. ⌜ BuiltAs (joined op (listAt (now (work .entry)) left n) (listAt (now (work .entry)) right m)) (now (work .exit)) target r ⌝ }
+    ensures built { λ r. ⌜ BuiltAs (joinList op (listAt (now (work .entry)) left n) (listAt (now (work .entry)) right m)) (now (work .exit)) target r ⌝ }
     ensures kept { λ _. ⌜ Kept target 768 (now (work .entry)) (now (work .exit)) ⌝ }
 {
     match op {
@@ -129,7 +129,7 @@ fn build(
 // The same of the lists in the slot at `base` and the one after it, brought to `base`.
 fn combine(op: Join, work: &mut [i32], base: usize, n: usize, m: usize, rounds: u64) -> Evaluated
     requires { ⌜ (n ≤ 128) × (m ≤ 128) × (base + 2304 ≤ length (now work)) × (Sound (listAt (now work) base n)) × (Sound (listAt (now work) (base + 768) m)) ⌝ }
-    ensures value { λ r. ⌜ EvaluatedAs (λ v. v ≡ ended (joined op (listAt (now (work .entry)) base n) (listAt (now (work .entry)) (base + 768) m)) rounds) (now (work .exit)) base r ⌝ }
+    ensures value { λ r. ⌜ EvaluatedAs (λ v. v ≡ ended (joinList op (listAt (now (work .entry)) base n) (listAt (now (work .entry)) (base + 768) m)) rounds) (now (work .exit)) base r ⌝ }
     ensures kept { λ _. ⌜ Kept base 2304 (now (work .entry)) (now (work .exit)) ⌝ }
 {
     let target = base + 1536;
@@ -253,7 +253,7 @@ fn level_of(sign: Sign) -> Level
 // they were.
 pub fn evaluate(
     bytes: &[u8],
-    recording: Recording,
+    recording: Dimensions,
     nodes: &[u32],
     node: u32,
     work: &mut [i32],
@@ -285,7 +285,7 @@ pub fn evaluate(
             };
             apply(op, work, base, count, recording.ticks, rounds)
         }
-        Node::Joined(op, left, right) => {
+        Node::Infix(op, left, right) => {
             let Evaluated::Listed {
                 count: n,
                 rounds: p,

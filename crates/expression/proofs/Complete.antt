@@ -55,7 +55,7 @@ use Rattle.expression.specs.Descent.{
   bars,
   ampersands,
   dots,
-  mark,
+  symbol,
   Rank,
   joining,
   repeating,
@@ -63,11 +63,11 @@ use Rattle.expression.specs.Descent.{
   below,
   descent,
   joinsAfter,
-  marksAfter,
+  postfixesAfter,
 }
 use Rattle.expression.proofs.Text.{yes-value}
 use Rattle.expression.proofs.Sound.{sound}
-use Rattle.expression.proofs.Steps.{joining-is, repeating-is, single-is, joins-on, joins-off, marks-star, marks-band, marks-off}
+use Rattle.expression.proofs.Steps.{joining-is, repeating-is, single-is, joins-on, joins-off, postfixes-star, postfixes-band, postfixes-off}
 
 ranged-on : (first count k : ℕ) (s : List ℕ) → k < count → ranged first count ((first + k) ∷ s) ≡ yes k s
 unfolding ranged branch
@@ -135,20 +135,20 @@ Stops single r = Unit {0}
 -- how a level goes on after the expression e
 abbrev after : Rank → Expression → List ℕ → Got Expression
 after (joining j) e r = joinsAfter j e r
-after repeating e r = marksAfter e r
+after repeating e r = postfixesAfter e r
 after single e r = yes e r
 
 -- the level below a join stops too, and so does what is inside it
 stops : (j : Join) (e : Expression) (r : List ℕ) → Stops (joining j) r → Stops (below j) r × (after (below j) e r ≡ yes e r)
 stops bars e r z = ((z .1, z .2, z .3), joins-off ampersands e r (z .0))
 stops ampersands e r z = ((z .1, z .2), joins-off dots e r (z .0))
-stops dots e r z = (tt, marks-off e r (z .0) (z .1))
+stops dots e r z = (tt, postfixes-off e r (z .0) (z .1))
 
-own-mark : (j : Join) (r : List ℕ) → Stops (joining j) (mark j ∷ r)
+own-symbol : (j : Join) (r : List ℕ) → Stops (joining j) (symbol j ∷ r)
 unfolding starts
-own-mark bars r = (refl, refl, refl, refl)
-own-mark ampersands r = (refl, refl, refl)
-own-mark dots r = (refl, refl)
+own-symbol bars r = (refl, refl, refl, refl)
+own-symbol ampersands r = (refl, refl, refl)
+own-symbol dots r = (refl, refl)
 
 by-bracket : (r : List ℕ) → Stops (joining bars) (41 ∷ r)
 unfolding starts
@@ -166,13 +166,13 @@ reads-alone : (j : Join) (s : List ℕ) (e : Expression) → Reads (below j) s e
 unfolding bind
 reads-alone j s e f r z = let w = stops j e r z in joining-is j (s ++ r) ∙ rw (f r (w .0) ∙ w .1)
 
-reads-also : (j : Join) (s u : List ℕ) (e f : Expression) → Reads (joining j) s e → Reads (below j) u f → Reads (joining j) (s ++ (mark j ∷ u)) (join j e f)
+reads-also : (j : Join) (s u : List ℕ) (e f : Expression) → Reads (joining j) s e → Reads (below j) u f → Reads (joining j) (s ++ (symbol j ∷ u)) (join j e f)
 unfolding bind starts rest
 reads-also j s u e f p q r z =
     let w = stops j f r z in
-    rw append-assoc (p (mark j ∷ (u ++ r)) (own-mark j (u ++ r)) ∙ joins-on j e (mark j ∷ (u ++ r)) (own j) ∙ rw (q r (w .0) ∙ w .1))
+    rw append-assoc (p (symbol j ∷ (u ++ r)) (own-symbol j (u ++ r)) ∙ joins-on j e (symbol j ∷ (u ++ r)) (own j) ∙ rw (q r (w .0) ∙ w .1))
   where
-    own : (j : Join) → starts (mark j) (mark j ∷ (u ++ r)) ≡ true
+    own : (j : Join) → starts (symbol j) (symbol j ∷ (u ++ r)) ≡ true
     own bars = refl
     own ampersands = refl
     own dots = refl
@@ -194,10 +194,10 @@ complete (ampersand {s = s} {u = u} {e = e} {f = f} p q) = reads-also ampersands
 complete (repeat-alone {s = s} {e = e} f) = reads-alone dots s e (complete f)
 complete (dot {s = s} {u = u} {e = e} {f = f} p q) = reads-also dots s u e f (complete p) (complete q)
 complete (primary-alone {s = s} f) = λ r z. repeating-is (s ++ r) ∙ rw (complete f r tt)
-complete (asterisk {s = s} {e = e} f) = λ r z. rw append-assoc (complete f (42 ∷ r) tt ∙ marks-star e (42 ∷ r) refl)
+complete (asterisk {s = s} {e = e} f) = λ r z. rw append-assoc (complete f (42 ∷ r) tt ∙ postfixes-star e (42 ∷ r) refl)
 complete (braces {s = s} {u = u} {e = e} f g) = λ r z.
     rw append-assoc
-    (complete f (123 ∷ ((u ++ (125 ∷ [])) ++ r)) tt ∙ marks-band e (123 ∷ ((u ++ (125 ∷ [])) ++ r)) refl refl
+    (complete f (123 ∷ ((u ++ (125 ∷ [])) ++ r)) tt ∙ postfixes-band e (123 ∷ ((u ++ (125 ∷ [])) ++ r)) refl refl
     ∙ rw (append-assoc u (125 ∷ []) r, limits-complete g r))
 complete underline = λ r z. single-is (95 ∷ r)
 complete (letter {k = k} h) = λ r z.

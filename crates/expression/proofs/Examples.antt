@@ -9,7 +9,7 @@ use Rattle.expression.specs.declared.Range.{Range}
 use Rattle.expression.specs.declared.Upper.the-variants.{Endless, UpTo}
 use Rattle.expression.specs.Expression.{Expression, epsilon, High, Low, literal, Union, Intersection, Concatenation, join, Star, Band, unary}
 use Rattle.expression.specs.Grammar.{Form, alternative}
-use Rattle.expression.specs.Descent.{Got, no, yes, branch, bind, starts, rest, expect, ranged, digits, number, upper, limits, marks, bars, joining, read, height, descent}
+use Rattle.expression.specs.Descent.{Got, no, yes, branch, bind, starts, rest, expect, ranged, digits, number, upper, limits, postfixes, bars, joining, read, height, descent}
 use Rattle.expression.proofs.Text.{false-true}
 use Rattle.expression.proofs.Complete.{whole-sound, whole-complete}
 
@@ -47,7 +47,7 @@ pub drills : Is "_" epsilon × Is "p" (literal High 15) × Is "!p" (literal Low 
     × Is "a|b|c" (join Union (join Union a (literal High 1)) (literal High 2)) × Is "a.(b.c)" (join Concatenation a (join Concatenation (literal High 1) (literal High 2)))
     × Is "(a|!a)*" (unary Star (join Union a (literal Low 0))) × Is "a{0,}" (unary (Band (record { lo = 0; hi = Endless })) a) × Is "(a{2,2})*" (unary Star (unary (Band (within 2 2)) a))
     × Is "((a))" a × Is "a{10,205}" (unary (Band (within 10 205)) a)
-unfolding descent read height branch bind starts rest expect ranged digits number upper limits marks
+unfolding descent read height branch bind starts rest expect ranged digits number upper limits postfixes
 drills = (
   whole-sound _ _ refl,
   whole-sound _ _ refl,
@@ -67,7 +67,7 @@ drills = (
 
 -- A leading zero, a missing lo, comma, brace or operand, blanks, and letters beyond `p` are not of the form.
 pub no-drills : None "a{01,2}" × None "a{,2}" × None "a{2}" × None "()" × None "a b" × None "q" × None "!_" × None "a." × None "|a" × None "a&" × None "a{1,2" × None "(a" × None "a)"
-unfolding descent read height branch bind starts rest expect ranged digits number upper limits marks leftover
+unfolding descent read height branch bind starts rest expect ranged digits number upper limits postfixes leftover
 no-drills = (
   none _ refl,
   none _ refl,

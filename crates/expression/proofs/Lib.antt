@@ -5,7 +5,7 @@ pub mod Complete
 pub mod Nodes
 pub mod Checks
 pub mod Numbers
-pub mod Turns
-pub mod Answers
+pub mod Additions
+pub mod Parses
 pub mod Laws
 pub mod Examples

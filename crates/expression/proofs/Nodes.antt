@@ -16,20 +16,20 @@ use Rattle.expression.specs.Stored.{
   stored-join,
   stored-unary,
 }
-use Rattle.expression.specs.Readers.{Kept, Placed}
+use Rattle.expression.specs.Readers.{FrontKept, Placed}
 
-pub kept-refl : (m : ℕ) (ns : List ℕ) → Kept m ns ns
+pub kept-refl : (m : ℕ) (ns : List ℕ) → FrontKept m ns ns
 kept-refl m ns = record { kept = λ k l. refl }
 
-pub kept-trans : {m m' : ℕ} {a b c : List ℕ} → m ≤ m' → Kept m a b → Kept m' b c → Kept m a c
+pub kept-trans : {m m' : ℕ} {a b c : List ℕ} → m ≤ m' → FrontKept m a b → FrontKept m' b c → FrontKept m a c
 kept-trans h p q = record { kept = λ k l. q .kept k (omega arith) ∙ p .kept k l }
 
-node-keep : {m : ℕ} {ns ns' : List ℕ} (n : ℕ) → n * 4 + 4 ≤ m → Kept m ns ns' → nodeAt ns' n ≡ nodeAt ns n
+node-keep : {m : ℕ} {ns ns' : List ℕ} (n : ℕ) → n * 4 + 4 ≤ m → FrontKept m ns ns' → nodeAt ns' n ≡ nodeAt ns n
 unfolding nodeAt
 node-keep n h k = rw (k .kept (n * 4) (omega arith), k .kept (n * 4 + 1) (omega arith), k .kept (n * 4 + 2) (omega arith), k .kept (n * 4 + 3) (omega arith))
 
 -- what is stored stays, as long as the words up to its root do
-pub stored-keep : {m : ℕ} {ns ns' : List ℕ} {n : ℕ} {e : Expression} → n * 4 + 4 ≤ m → Kept m ns ns' → Stored ns n e → Stored ns' n e
+pub stored-keep : {m : ℕ} {ns ns' : List ℕ} {n : ℕ} {e : Expression} → n * 4 + 4 ≤ m → FrontKept m ns ns' → Stored ns n e → Stored ns' n e
 stored-keep h k (stored-epsilon w) = stored-epsilon (node-keep _ h k ∙ w)
 stored-keep h k (stored-literal w) = stored-literal (node-keep _ h k ∙ w)
 stored-keep h k (stored-join w a b x y) = stored-join (node-keep _ h k ∙ w) a b (stored-keep (omega arith) k x) (stored-keep (omega arith) k y)

@@ -38,7 +38,7 @@ use Rattle.expression.specs.Grammar.{
   exclamation,
   brackets,
 }
-use Rattle.expression.specs.Descent.{yes, rest, expect, ranged, digits, number, upper, limits, marks, lettered, Join, bars, ampersands, dots, mark, Rank, joining, repeating, single, below, read, joins}
+use Rattle.expression.specs.Descent.{yes, rest, expect, ranged, digits, number, upper, limits, postfixes, lettered, Join, bars, ampersands, dots, symbol, Rank, joining, repeating, single, below, read, joins}
 use Rattle.expression.proofs.Text.{no-yes, yes-text, yes-value, bind-yes, branch-split, starts-is}
 
 -- the grammar's level of a rank
@@ -56,7 +56,7 @@ alone ampersands f = sequence-alone f
 alone dots f = repeat-alone f
 
 pub also : (j : Join) {s u : List ℕ} {e f : Expression} → Form (level (joining j)) s e → Form (level (below j)) u f
-    → Form (level (joining j)) (s ++ (mark j ∷ u)) (join j e f)
+    → Form (level (joining j)) (s ++ (symbol j ∷ u)) (join j e f)
 also bars f g = bar f g
 also ampersands f g = ampersand f g
 also dots f g = dot f g
@@ -176,19 +176,19 @@ More l w s e r = (u : List ℕ) × (s ≡ u ++ r) × Form l (w ++ u) e
 no-more : {l : Level} {w s : List ℕ} {e f : Expression} {r : List ℕ} → yes e s ≡ yes f r → Form l w e → More l w s f r
 no-more {l} {w} e f = ([], yes-text e, subst (λ (x : Expression). Form l (w ++ []) x) (yes-value e) (rw append-nil f))
 
-marks-sound : (n : ℕ) (w : List ℕ) (t : Expression) (s : List ℕ) (u : Expression) (r : List ℕ) → marks n t s ≡ yes u r → Form repeat w t → More repeat w s u r
-unfolding marks
-marks-sound zero w t s u r e f = absurd (no-yes e)
-marks-sound (suc n) w t s u r e f =
+postfixes-sound : (n : ℕ) (w : List ℕ) (t : Expression) (s : List ℕ) (u : Expression) (r : List ℕ) → postfixes n t s ≡ yes u r → Form repeat w t → More repeat w s u r
+unfolding postfixes
+postfixes-sound zero w t s u r e f = absurd (no-yes e)
+postfixes-sound (suc n) w t s u r e f =
     ⊎-elim
     (λ p.
-    let k = marks-sound n (w ++ (42 ∷ [])) (unary Star t) (rest s) u r (p .1) (asterisk f) in
+    let k = postfixes-sound n (w ++ (42 ∷ [])) (unary Star t) (rest s) u r (p .1) (asterisk f) in
     (42 ∷ k .0, starts-is 42 s (p .0) ∙ ap (λ (x : List ℕ). 42 ∷ x) (k .1), rw (← append-assoc w (42 ∷ []) (k .0)) (k .2)))
     (λ p. ⊎-elim
     (λ q.
     let b = bind-yes _ _ (q .1) in
     let h = limits-sound (rest s) (b .0) (b .1) (b .2) in
-    let k = marks-sound n (w ++ (123 ∷ (h .0 ++ (125 ∷ [])))) (unary (Band (b .0)) t) (b .1) u r (b .3) (braces f (h .2)) in (
+    let k = postfixes-sound n (w ++ (123 ∷ (h .0 ++ (125 ∷ [])))) (unary (Band (b .0)) t) (b .1) u r (b .3) (braces f (h .2)) in (
       (123 ∷ (h .0 ++ (125 ∷ []))) ++ k .0,
       starts-is 123 s (q .0) ∙ ap (λ (x : List ℕ). 123 ∷ x) (h .1 ∙ ap (λ (x : List ℕ). h .0 ++ (125 ∷ x)) (k .1) ∙ simp append-assoc),
       rw (← append-assoc w (123 ∷ (h .0 ++ (125 ∷ []))) (k .0)) (k .2),
@@ -220,7 +220,7 @@ mutual
   sound (suc n) repeating s t r e =
       let b = bind-yes _ _ e in
       let h = sound n single s (b .0) (b .1) (b .2) in
-      let k = marks-sound (suc (length (b .1))) (h .0) (b .0) (b .1) t r (b .3) (primary-alone (h .2)) in
+      let k = postfixes-sound (suc (length (b .1))) (h .0) (b .0) (b .1) t r (b .3) (primary-alone (h .2)) in
       (h .0 ++ k .0, rw append-assoc (rw (← k .1) (h .1)), k .2)
   sound (suc n) single s t r e =
       ⊎-elim
@@ -253,10 +253,10 @@ mutual
       (λ p.
       let b = bind-yes _ _ (p .1) in
       let h = sound n (below j) (rest s) (b .0) (b .1) (b .2) in
-      let k = joins-sound n j (w ++ (mark j ∷ h .0)) (join j t (b .0)) (b .1) u r (b .3) (also j f (h .2)) in (
-        (mark j ∷ h .0) ++ k .0,
-        starts-is (mark j) s (p .0) ∙ ap (λ (x : List ℕ). mark j ∷ x) (h .1 ∙ ap (λ (x : List ℕ). h .0 ++ x) (k .1) ∙ sym (append-assoc (h .0) (k .0) r)),
-        rw (← append-assoc w (mark j ∷ h .0) (k .0)) (k .2),
+      let k = joins-sound n j (w ++ (symbol j ∷ h .0)) (join j t (b .0)) (b .1) u r (b .3) (also j f (h .2)) in (
+        (symbol j ∷ h .0) ++ k .0,
+        starts-is (symbol j) s (p .0) ∙ ap (λ (x : List ℕ). symbol j ∷ x) (h .1 ∙ ap (λ (x : List ℕ). h .0 ++ x) (k .1) ∙ sym (append-assoc (h .0) (k .0) r)),
+        rw (← append-assoc w (symbol j ∷ h .0) (k .0)) (k .2),
       ))
       (λ p. no-more (p .1) f)
       (branch-split _ _ _ e)

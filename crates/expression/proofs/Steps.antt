@@ -16,13 +16,13 @@ use Rattle.expression.specs.Descent.{
   rest,
   expect,
   limits,
-  marks,
+  postfixes,
   lettered,
   Join,
   bars,
   ampersands,
   dots,
-  mark,
+  symbol,
   Rank,
   joining,
   repeating,
@@ -34,7 +34,7 @@ use Rattle.expression.specs.Descent.{
   need,
   descent,
   joinsAfter,
-  marksAfter,
+  postfixesAfter,
 }
 use Rattle.expression.proofs.Text.{starts-shorter}
 use Rattle.expression.proofs.Sound.{shorter, limits-shorter}
@@ -49,16 +49,16 @@ unfolding branch
 branch-same true a c a' c' p q = p refl
 branch-same false a c a' c' p q = q
 
-marks-same : (n m : ℕ) (e : Expression) (s : List ℕ) → length s < n → length s < m → marks n e s ≡ marks m e s
-unfolding marks
-marks-same zero m e s h k = absurd (omega arith)
-marks-same (suc n) zero e s h k = absurd (omega arith)
-marks-same (suc n) (suc m) e s h k =
-    branch-same _ _ _ _ _ (λ w. let f = starts-shorter 42 s w in marks-same n m (unary Star e) (rest s) (omega arith) (omega arith))
+postfixes-same : (n m : ℕ) (e : Expression) (s : List ℕ) → length s < n → length s < m → postfixes n e s ≡ postfixes m e s
+unfolding postfixes
+postfixes-same zero m e s h k = absurd (omega arith)
+postfixes-same (suc n) zero e s h k = absurd (omega arith)
+postfixes-same (suc n) (suc m) e s h k =
+    branch-same _ _ _ _ _ (λ w. let f = starts-shorter 42 s w in postfixes-same n m (unary Star e) (rest s) (omega arith) (omega arith))
     (branch-same _ _ _ _ _
     (λ w.
     let f = starts-shorter 123 s w in
-    bind-same (limits (rest s)) _ _ refl (λ x r g. let d = limits-shorter (rest s) x r g in marks-same n m (unary (Band x) e) r (omega arith) (omega arith)))
+    bind-same (limits (rest s)) _ _ refl (λ x r g. let d = limits-shorter (rest s) x r g in postfixes-same n m (unary (Band x) e) r (omega arith) (omega arith)))
     refl)
 
 below-height : (j : Join) → height (joining j) ≡ height (below j) + 1
@@ -114,7 +114,7 @@ mutual
   joins-same (suc n) (suc m) j e s h l =
       branch-same _ _ _ _ _
       (λ w.
-      let d = starts-shorter (mark j) s w in
+      let d = starts-shorter (symbol j) s w in
       let b = below-height j in
       let c = height-low j in
       bind-same _ _ _ (same n m (below j) (rest s) (omega arith) (omega arith))
@@ -131,8 +131,8 @@ joining-is j s =
     ∙ bind-same (read (need (below j) s) (below j) s) _ _ refl
     (λ e r g. let f = shorter (need (below j) s) (below j) s e r g in joins-same (need (below j) s) (length r * 8 + 1) j e r (omega arith) (omega arith))
 
-pub repeating-is : (s : List ℕ) → descent repeating s ≡ bind (descent single s) (λ e r. marksAfter e r)
-unfolding read height descent marksAfter
+pub repeating-is : (s : List ℕ) → descent repeating s ≡ bind (descent single s) (λ e r. postfixesAfter e r)
+unfolding read height descent postfixesAfter
 repeating-is s = same (need repeating s) (suc (need single s)) repeating s (omega arith) (omega arith)
 
 pub single-is : (s : List ℕ)
@@ -152,13 +152,13 @@ single-is s =
     refl))
 
 joins-is : (j : Join) (e : Expression) (s : List ℕ)
-    → joinsAfter j e s ≡ branch (starts (mark j) s) (λ _. bind (descent (below j) (rest s)) (λ f r. joinsAfter j (join j e f) r)) (λ _. yes e s)
+    → joinsAfter j e s ≡ branch (starts (symbol j) s) (λ _. bind (descent (below j) (rest s)) (λ f r. joinsAfter j (join j e f) r)) (λ _. yes e s)
 unfolding read descent joinsAfter
 joins-is j e s =
     joins-same (length s * 8 + 1) (suc (length s * 8)) j e s (omega arith) (omega arith)
     ∙ branch-same _ _ _ _ _
     (λ w.
-    let d = starts-shorter (mark j) s w in
+    let d = starts-shorter (symbol j) s w in
     let b = below-height j in
     let c = height-low j in
     bind-same _ _ _ (same (length s * 8) (need (below j) (rest s)) (below j) (rest s) (omega arith) (omega arith))
@@ -167,39 +167,39 @@ joins-is j e s =
     joins-same (length s * 8) (length r * 8 + 1) j (join j e f) r (omega arith) (omega arith)))
     refl
 
-marks-is : (e : Expression) (s : List ℕ)
-    → marksAfter e s
-    ≡ branch (starts 42 s) (λ _. marksAfter (unary Star e) (rest s))
-    (λ _. branch (starts 123 s) (λ _. bind (limits (rest s)) (λ x r. marksAfter (unary (Band x) e) r)) (λ _. yes e s))
-unfolding marks marksAfter
-marks-is e s =
+postfixes-is : (e : Expression) (s : List ℕ)
+    → postfixesAfter e s
+    ≡ branch (starts 42 s) (λ _. postfixesAfter (unary Star e) (rest s))
+    (λ _. branch (starts 123 s) (λ _. bind (limits (rest s)) (λ x r. postfixesAfter (unary (Band x) e) r)) (λ _. yes e s))
+unfolding postfixes postfixesAfter
+postfixes-is e s =
     branch-same _ _ _ _ _
-    (λ w. let f = starts-shorter 42 s w in marks-same (length s) (suc (length (rest s))) (unary Star e) (rest s) (omega arith) (omega arith))
+    (λ w. let f = starts-shorter 42 s w in postfixes-same (length s) (suc (length (rest s))) (unary Star e) (rest s) (omega arith) (omega arith))
     (branch-same _ _ _ _ _
     (λ w.
     let f = starts-shorter 123 s w in
     bind-same (limits (rest s)) _ _ refl
-    (λ x r g. let d = limits-shorter (rest s) x r g in marks-same (length s) (suc (length r)) (unary (Band x) e) r (omega arith) (omega arith)))
+    (λ x r g. let d = limits-shorter (rest s) x r g in postfixes-same (length s) (suc (length r)) (unary (Band x) e) r (omega arith) (omega arith)))
     refl)
 
 module _ (j : Join) (e : Expression) (s : List ℕ) where
-  pub joins-on : starts (mark j) s ≡ true → joinsAfter j e s ≡ bind (descent (below j) (rest s)) (λ f r. joinsAfter j (join j e f) r)
+  pub joins-on : starts (symbol j) s ≡ true → joinsAfter j e s ≡ bind (descent (below j) (rest s)) (λ f r. joinsAfter j (join j e f) r)
   unfolding branch
   joins-on h = joins-is j e s ∙ rw h
 
-  pub joins-off : starts (mark j) s ≡ false → joinsAfter j e s ≡ yes e s
+  pub joins-off : starts (symbol j) s ≡ false → joinsAfter j e s ≡ yes e s
   unfolding branch
   joins-off h = joins-is j e s ∙ rw h
 
 module _ (e : Expression) (s : List ℕ) where
-  pub marks-star : starts 42 s ≡ true → marksAfter e s ≡ marksAfter (unary Star e) (rest s)
+  pub postfixes-star : starts 42 s ≡ true → postfixesAfter e s ≡ postfixesAfter (unary Star e) (rest s)
   unfolding branch
-  marks-star h = marks-is e s ∙ rw h
+  postfixes-star h = postfixes-is e s ∙ rw h
 
-  pub marks-band : starts 42 s ≡ false → starts 123 s ≡ true → marksAfter e s ≡ bind (limits (rest s)) (λ x r. marksAfter (unary (Band x) e) r)
+  pub postfixes-band : starts 42 s ≡ false → starts 123 s ≡ true → postfixesAfter e s ≡ bind (limits (rest s)) (λ x r. postfixesAfter (unary (Band x) e) r)
   unfolding branch
-  marks-band h k = marks-is e s ∙ rw (h, k)
+  postfixes-band h k = postfixes-is e s ∙ rw (h, k)
 
-  pub marks-off : starts 42 s ≡ false → starts 123 s ≡ false → marksAfter e s ≡ yes e s
+  pub postfixes-off : starts 42 s ≡ false → starts 123 s ≡ false → postfixesAfter e s ≡ yes e s
   unfolding branch
-  marks-off h k = marks-is e s ∙ rw (h, k)
+  postfixes-off h k = postfixes-is e s ∙ rw (h, k)

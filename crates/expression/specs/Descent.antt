@@ -64,20 +64,20 @@ unfoldable pub limits : List ℕ → Got Range
 limits s = bind (number s) (λ n r. bind (expect 44 n r) (λ m q. bind (upper q) (λ u p. yes (record { lo = m; hi = u }) p)))
 
 -- the `*` and `{lo,hi}` after a primary; n bounds how many
-unfoldable pub marks : ℕ → Expression → List ℕ → Got Expression
-marks zero e s = no
-marks (suc n) e s =
-    branch (starts 42 s) (λ _. marks n (unary Star e) (rest s))
-    (λ _. branch (starts 123 s) (λ _. bind (limits (rest s)) (λ x r. marks n (unary (Band x) e) r)) (λ _. yes e s))
+unfoldable pub postfixes : ℕ → Expression → List ℕ → Got Expression
+postfixes zero e s = no
+postfixes (suc n) e s =
+    branch (starts 42 s) (λ _. postfixes n (unary Star e) (rest s))
+    (λ _. branch (starts 123 s) (λ _. bind (limits (rest s)) (λ x r. postfixes n (unary (Band x) e) r)) (λ _. yes e s))
 
 -- a letter, as its channel
 abbrev pub lettered : (ℕ → Expression) → List ℕ → Got Expression
 lettered f s = bind (ranged 97 16 s) (λ k r. yes (f k) r)
 
-abbrev pub mark : Join → ℕ
-mark bars = 124
-mark ampersands = 38
-mark dots = 46
+abbrev pub symbol : Join → ℕ
+symbol bars = 124
+symbol ampersands = 38
+symbol dots = 46
 
 -- the grammar's levels, the three that join as one
 pub data Rank : Type 0 where
@@ -96,7 +96,7 @@ unfoldable mutual
   pub read : ℕ → Rank → List ℕ → Got Expression
   read zero k s = no
   read (suc n) (joining j) s = bind (read n (below j) s) (λ e r. joins n j e r)
-  read (suc n) repeating s = bind (read n single s) (λ e r. marks (suc (length r)) e r)
+  read (suc n) repeating s = bind (read n single s) (λ e r. postfixes (suc (length r)) e r)
   read (suc n) single s =
       branch (starts 95 s) (λ _. yes epsilon (rest s))
       (λ _. branch (starts 33 s) (λ _. lettered (literal Low) (rest s))
@@ -104,7 +104,7 @@ unfoldable mutual
 
   pub joins : ℕ → Join → Expression → List ℕ → Got Expression
   joins zero j e s = no
-  joins (suc n) j e s = branch (starts (mark j) s) (λ _. bind (read n (below j) (rest s)) (λ f r. joins n j (join j e f) r)) (λ _. yes e s)
+  joins (suc n) j e s = branch (starts (symbol j) s) (λ _. bind (read n (below j) (rest s)) (λ f r. joins n j (join j e f) r)) (λ _. yes e s)
 
 unfoldable pub height : Rank → ℕ
 height (joining bars) = 5
@@ -121,9 +121,9 @@ need k s = length s * 8 + height k
 unfoldable pub descent : Rank → List ℕ → Got Expression
 descent k s = read (need k s) k s
 
--- the joins after a first operand, and the marks after a primary
+-- the joins after a first operand, and the postfixes after a primary
 unfoldable pub joinsAfter : Join → Expression → List ℕ → Got Expression
 joinsAfter j e s = joins (length s * 8 + 1) j e s
 
-unfoldable pub marksAfter : Expression → List ℕ → Got Expression
-marksAfter e s = marks (suc (length s)) e s
+unfoldable pub postfixesAfter : Expression → List ℕ → Got Expression
+postfixesAfter e s = postfixes (suc (length s)) e s

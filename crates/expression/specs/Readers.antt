@@ -64,13 +64,13 @@ wrong (unary Star e) = wrong e
 wrong (unary (Band r) e) = wrongRange r || wrong e
 
 -- the first m words are as they were
-pub record Kept (m : ℕ) (before after : List ℕ) : Type 0 where
+pub record FrontKept (m : ℕ) (before after : List ℕ) : Type 0 where
   pub kept : (k : ℕ) → k < m → getD after k 0 ≡ getD before k 0
 
 -- node n is written, and the nodes before it are as they were
 pub record Placed (n : ℕ) (node : Node) (before after : List ℕ) : Type 0 where
   pub placed : nodeAt after n ≡ node
-  pub others : Kept (n * 4) before after
+  pub others : FrontKept (n * 4) before after
 
 -- the tree of a node at the free place, over the operands that `under` sums up
 abbrev pub over : Tree → Tree
@@ -105,7 +105,7 @@ pub record Reached (k : Rank) (rest : Expression → List ℕ → Got Expression
   pub grown : used ≤ tree .used
   pub rooted : tree .root < tree .used
   pub shallow : tree .depth ≤ tree .used
-  pub kept : Kept (used * 4) before after
+  pub kept : FrontKept (used * 4) before after
   pub e : Expression
   pub stored : Stored after (tree .root) (capped e)
   pub depth-is : tree .depth ≡ depth e

@@ -20,24 +20,24 @@ abbrev pub Wrong : Range → Type 0
 Wrong r = (1000000 < r .lo) ⊎ WrongUpper (r .lo) (r .hi)
 
 -- the cause of each number holds, of a text and the channel count of a recording
-pub data Cause (text : List ℕ) (channels : ℕ) : ℕ → Type 0 where
+pub data DrillCause (text : List ℕ) (channels : ℕ) : ℕ → Type 0 where
   -- "drill of length 0 or over 255"
-  wrong-length : (length text ≡ 0) ⊎ (255 < length text) → Cause text channels 4
+  wrong-length : (length text ≡ 0) ⊎ (255 < length text) → DrillCause text channels 4
   -- "drill not of the form above"
-  no-form : ((e : Expression) → Form alternative text e → ⊥) → Cause text channels 5
+  no-form : ((e : Expression) → Form alternative text e → ⊥) → DrillCause text channels 5
   -- "a letter at or beyond the channel count"
-  wrong-letter : {e : Expression} {k : ℕ} → Form alternative text e → List·Memᴰ k (letters e) → channels ≤ k → Cause text channels 6
+  wrong-letter : {e : Expression} {k : ℕ} → Form alternative text e → List·Memᴰ k (letters e) → channels ≤ k → DrillCause text channels 6
   -- "lo or hi above 1,000,000, or lo > hi"
-  wrong-range : {e : Expression} {r : Range} → Form alternative text e → List·Memᴰ r (ranges e) → Wrong r → Cause text channels 7
+  wrong-range : {e : Expression} {r : Range} → Form alternative text e → List·Memᴰ r (ranges e) → Wrong r → DrillCause text channels 7
   -- "depth above 16"
-  too-deep : {e : Expression} → Form alternative text e → 16 < depth e → Cause text channels 8
+  too-deep : {e : Expression} → Form alternative text e → 16 < depth e → DrillCause text channels 8
 
 -- "Each is given when its cause holds and no earlier one does": n is the number of the first cause
 pub record Refused (text : List ℕ) (channels n : ℕ) : Type 0 where
-  pub holds : Cause text channels n
-  pub first : (m : ℕ) → m < n → Cause text channels m → ⊥
+  pub holds : DrillCause text channels n
+  pub first : (m : ℕ) → m < n → DrillCause text channels m → ⊥
 
 -- no cause holds, and the text is the expression e
 pub record Accepted (text : List ℕ) (channels : ℕ) (e : Expression) : Type 0 where
   pub form : Form alternative text e
-  pub none : (n : ℕ) → Cause text channels n → ⊥
+  pub none : (n : ℕ) → DrillCause text channels n → ⊥

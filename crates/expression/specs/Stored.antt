@@ -7,7 +7,7 @@ use lib.Dec.{eqb}
 use lib.ListN.{getD}
 use Rattle.expression.specs.declared.Upper.the-variants.{Endless, UpTo}
 use Rattle.expression.specs.declared.Node.{Node}
-use Rattle.expression.specs.declared.Node.the-variants.{Epsilon, Literal, Joined, Applied}
+use Rattle.expression.specs.declared.Node.the-variants.{Epsilon, Literal, Infix, Applied}
 use Rattle.expression.specs.Expression.{Expression, epsilon, Sign, High, Low, literal, Join, Union, Intersection, Concatenation, join, Unary, Star, Band, unary}
 
 abbrev pub pickNode : Bool → Node → Node → Node
@@ -19,9 +19,9 @@ unfoldable pub decoded : ℕ → ℕ → ℕ → ℕ → Node
 decoded op x y z =
     pickNode (eqb op 1) (Literal High x)
     (pickNode (eqb op 2) (Literal Low x)
-    (pickNode (eqb op 3) (Joined Union x y)
-    (pickNode (eqb op 4) (Joined Intersection x y)
-    (pickNode (eqb op 5) (Joined Concatenation x y)
+    (pickNode (eqb op 3) (Infix Union x y)
+    (pickNode (eqb op 4) (Infix Intersection x y)
+    (pickNode (eqb op 5) (Infix Concatenation x y)
     (pickNode (eqb op 6) (Applied Star x)
     (pickNode (eqb op 7) (Applied (Band (record { lo = y; hi = UpTo z })) x)
     (pickNode (eqb op 8) (Applied (Band (record { lo = y; hi = Endless })) x) Epsilon)))))))
@@ -35,5 +35,5 @@ pub data Stored (ns : List ℕ) : ℕ → Expression → Type 0 where
   stored-epsilon : {n : ℕ} → nodeAt ns n ≡ Epsilon → Stored ns n epsilon
   stored-literal : {n k : ℕ} {s : Sign} → nodeAt ns n ≡ Literal s k → Stored ns n (literal s k)
   stored-join : {n i k : ℕ} {j : Join} {e f : Expression}
-      → nodeAt ns n ≡ Joined j i k → i < n → k < n → Stored ns i e → Stored ns k f → Stored ns n (join j e f)
+      → nodeAt ns n ≡ Infix j i k → i < n → k < n → Stored ns i e → Stored ns k f → Stored ns n (join j e f)
   stored-unary : {n i : ℕ} {u : Unary} {e : Expression} → nodeAt ns n ≡ Applied u i → i < n → Stored ns i e → Stored ns n (unary u e)

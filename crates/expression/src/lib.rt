@@ -45,7 +45,7 @@ pub enum Unary {
 pub enum Node {
     Epsilon,
     Literal(Sign, u32),
-    Joined(Join, u32, u32),
+    Infix(Join, u32, u32),
     Applied(Unary, u32),
 }
 
@@ -132,9 +132,9 @@ fn node_of(op: u32, x: u32, y: u32, z: u32) -> Node
     match op {
         1 => Node::Literal(Sign::High, x),
         2 => Node::Literal(Sign::Low, x),
-        3 => Node::Joined(Join::Union, x, y),
-        4 => Node::Joined(Join::Intersection, x, y),
-        5 => Node::Joined(Join::Concatenation, x, y),
+        3 => Node::Infix(Join::Union, x, y),
+        4 => Node::Infix(Join::Intersection, x, y),
+        5 => Node::Infix(Join::Concatenation, x, y),
         6 => Node::Applied(Unary::Star, x),
         7 => Node::Applied(
             Unary::Band(Range {
@@ -177,7 +177,7 @@ fn words_of(node: Node) -> Words
             Sign::High => Words(1, channel, 0, 0),
             Sign::Low => Words(2, channel, 0, 0),
         },
-        Node::Joined(join, left, right) => match join {
+        Node::Infix(join, left, right) => match join {
             Join::Union => Words(3, left, right, 0),
             Join::Intersection => Words(4, left, right, 0),
             Join::Concatenation => Words(5, left, right, 0),
@@ -365,7 +365,7 @@ fn alternative(text: &[u8], at: usize, nodes: &mut [u32], used: u32) -> Read
         let Read::Part(right) = conjunction(text, tree.at + 1, nodes, tree.used) else {
             return Read::Stop;
         };
-        let node = Node::Joined(Join::Union, tree.root, right.root);
+        let node = Node::Infix(Join::Union, tree.root, right.root);
         tree = add(nodes, pair(tree, right), node);
     }
     Read::Part(tree)
@@ -384,7 +384,7 @@ fn conjunction(text: &[u8], at: usize, nodes: &mut [u32], used: u32) -> Read
         let Read::Part(right) = sequence(text, tree.at + 1, nodes, tree.used) else {
             return Read::Stop;
         };
-        let node = Node::Joined(Join::Intersection, tree.root, right.root);
+        let node = Node::Infix(Join::Intersection, tree.root, right.root);
         tree = add(nodes, pair(tree, right), node);
     }
     Read::Part(tree)
@@ -403,7 +403,7 @@ fn sequence(text: &[u8], at: usize, nodes: &mut [u32], used: u32) -> Read
         let Read::Part(right) = repeat(text, tree.at + 1, nodes, tree.used) else {
             return Read::Stop;
         };
-        let node = Node::Joined(Join::Concatenation, tree.root, right.root);
+        let node = Node::Infix(Join::Concatenation, tree.root, right.root);
         tree = add(nodes, pair(tree, right), node);
     }
     Read::Part(tree)

@@ -66,7 +66,7 @@ fn print_tree(nodes: &[u32], n: u32, depth: u32) {
             print_sign(sign);
             print_letter(channel);
         }
-        Node::Joined(join, left, right) => {
+        Node::Infix(join, left, right) => {
             print_join(join);
             print_tree(nodes, left, depth - 1);
             print_tree(nodes, right, depth - 1);

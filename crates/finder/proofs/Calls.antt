@@ -14,11 +14,11 @@ use Rattle.recording.specs.Reading.{ticks, channels, Headed}
 use Rattle.recording.specs.Levels.{Shows}
 use Rattle.recording.proofs.Rounding.{tick-range}
 use Rattle.expression.specs.Expression.{Expression}
-use Rattle.expression.specs.Refusal.{Accepted, Cause as DrillCause, wrong-length, no-form, wrong-letter, wrong-range, too-deep}
+use Rattle.expression.specs.Refusal.{Accepted, DrillCause, wrong-length, no-form, wrong-letter, wrong-range, too-deep}
 use Rattle.expression.proofs.Complete.{unique}
-use Rattle.expression.proofs.Answers.{answered}
-use Rattle.evaluation.specs.Lists.{value, overflow, Value, repeated, Turns, Sum}
-use Rattle.finder.specs.Outcome.{Outcome, RecordingLength, RecordingHead, RecordingChange, DrillLength, DrillForm, DrillLetter, DrillRange, DrillDepth, WorkShort, ListFull, AnswerShort, Finished, Comes, CallAs, CallAs.refused, CallAs.accepted, words, fronted, frontOf, BothKept, AnswerKept, Delivered, BuffersAs, FindAs}
+use Rattle.expression.proofs.Parses.{answered}
+use Rattle.evaluation.specs.Lists.{value, overflow, Value, repeated, RoundsOf, Sum}
+use Rattle.finder.specs.Outcome.{Outcome, RecordingLength, RecordingHead, RecordingChange, DrillLength, DrillForm, DrillLetter, DrillRange, DrillDepth, WorkShort, Overflow, AnswerShort, Finished, Comes, CallAs, CallAs.refused, CallAs.accepted, words, fronted, frontOf, BothKept, AnswerKept, Delivered, BuffersAs, FindAs}
 use Rattle.finder.specs.Demands.{Exact, Total, NoInputCause}
 use Rattle.evaluation.proofs.Evaluation.{evaluates-well, evaluates-exists}
 use Rattle.evaluation.proofs.Members.{members}
@@ -45,7 +45,7 @@ comes-exact {bytes} {rounds = rounds} c =
 module _ {bytes text : List ℕ} {answer work answer′ work′ : List ℤ} {zones rounds : ℕ} (h : FindAs bytes text answer work (Finished zones rounds) answer′ work′) where
   roomy : length (h .buffers .list) * 6 ≤ length answer
   roomy =
-      let none = number-none (h .outcome) .0 refl AnswerShort (append-right (recordings ++ (drills ++ (WorkShort ∷ ListFull ∷ []))) (List·Memᴰ·head refl)) in
+      let none = number-none (h .outcome) .0 refl AnswerShort (append-right (recordings ++ (drills ++ (WorkShort ∷ Overflow ∷ []))) (List·Memᴰ·head refl)) in
       let long : ¬ (length answer < length (h .buffers .list) * 6) = λ q. none (h .buffers .list, rounds, h .buffers .comes, q) in
       omega arith
 
@@ -83,7 +83,7 @@ comes-bounded {bytes} {L = L} {rounds = rounds} some c =
       each = λ f m. let t = sum-mem s m in
           record {
             rounds = t .0;
-            turns = t .1;
+            made = t .1;
             few = turns-bound (Shows bytes) some (t .1);
             pieces = turns-pieces (Shows bytes) some (recording-finite bytes 0 (ticks bytes)) (t .1);
           };
@@ -94,7 +94,7 @@ comes-bounded {bytes} {L = L} {rounds = rounds} some c =
 pub total-unique : {bytes text : List ℕ} {m n : ℕ} → Total bytes text m → Total bytes text n → m ≡ n
 total-unique {bytes} {m = m} p q =
     let e = unique (p .form) (q .form) in
-    sum-unique (turns-unique (Shows bytes)) (subst (λ (d : Expression). Sum (Turns (Shows bytes) 0 (ticks bytes)) (repeated d) m) e (p .sum)) (q .sum)
+    sum-unique (turns-unique (Shows bytes)) (subst (λ (d : Expression). Sum (RoundsOf (Shows bytes) 0 (ticks bytes)) (repeated d) m) e (p .sum)) (q .sum)
 
 -- Of every recording and drill for which none of causes 1 to 8 and 10 holds.
 pub inputs-bounded : {bytes text : List ℕ} → NoInputCause bytes text → (total : ℕ) × Total bytes text total
@@ -114,7 +114,7 @@ inputs-bounded {bytes} {text} none = ⊎-elim (λ a. given (a .0) (a .1)) (λ r.
 
     total : (v : Value) → Comes bytes text v → (n : ℕ) × Total bytes text n
     total (value L r) c = (r, comes-bounded some c)
-    total overflow c = absurd (none ListFull (append-right (recordings ++ drills) (List·Memᴰ·head refl)) c)
+    total overflow c = absurd (none Overflow (append-right (recordings ++ drills) (List·Memᴰ·head refl)) c)
 
     given : (e : Expression) → Accepted text (channels bytes) e → (n : ℕ) × Total bytes text n
     given e a =
@@ -150,7 +150,7 @@ module _ (bytes text : List ℕ) (answer work a w b v : List ℤ) where
   buffers-unique DrillRange p q = kept-unique p q
   buffers-unique DrillDepth p q = kept-unique p q
   buffers-unique WorkShort p q = kept-unique p q
-  buffers-unique ListFull p q = cleared-unique p q
+  buffers-unique Overflow p q = cleared-unique p q
   buffers-unique AnswerShort p q = cleared-unique p q
   buffers-unique (Finished zones rounds) p q = delivered-unique p q
 

@@ -11,7 +11,7 @@ use Rattle.recording.proofs.Handed.{shows-runs, shows-held}
 use Rattle.expression.specs.Expression.{Expression}
 use Rattle.expression.proofs.Complete.{unique}
 use Rattle.evaluation.specs.Lists.{Value, Evaluates}
-use Rattle.finder.specs.Outcome.{Outcome, RecordingLength, RecordingHead, RecordingChange, DrillLength, DrillForm, DrillLetter, DrillRange, DrillDepth, WorkShort, ListFull, AnswerShort, Finished, returned, Comes, Cause, refusals, First, NoCause, CallAs, CallAs.refused, CallAs.accepted}
+use Rattle.finder.specs.Outcome.{Outcome, RecordingLength, RecordingHead, RecordingChange, DrillLength, DrillForm, DrillLetter, DrillRange, DrillDepth, WorkShort, Overflow, AnswerShort, Finished, returned, Comes, Cause, refusals, First, NoCause, CallAs, CallAs.refused, CallAs.accepted}
 use Rattle.evaluation.proofs.Evaluation.{FiniteVariability, evaluates-unique}
 
 -- ---- recordings
@@ -54,7 +54,7 @@ numbered DrillLetter h = refl
 numbered DrillRange h = refl
 numbered DrillDepth h = refl
 numbered WorkShort h = refl
-numbered ListFull h = refl
+numbered Overflow h = refl
 numbered AnswerShort h = refl
 numbered (Finished zones rounds) h = absurd (omega arith)
 
@@ -106,7 +106,7 @@ module _ {bytes text : List ℕ} {answer work : ℕ} where
       given DrillRange c e = omega arith
       given DrillDepth c e = omega arith
       given WorkShort c e = omega arith
-      given ListFull c e = omega arith
+      given Overflow c e = omega arith
       given AnswerShort c e = omega arith
       given (Finished zones rounds) c e = c
   number-none (accepted n c l) = (λ _. n, λ _. refl)

@@ -6,17 +6,17 @@ use lib.IntN.{ℤ}
 use lib.ListN.{length}
 use Rattle.recording.specs.Reading.{ticks, channels, reading, ReadAs}
 use Rattle.recording.specs.Levels.{Shows}
-use Rattle.recording.specs.declared.Recording.{Recording}
+use Rattle.recording.specs.declared.Dimensions.{Dimensions}
 use Rattle.recording.specs.declared.Reading.the-variants.{Recorded}
 use Rattle.recording.proofs.Refusals.{read-numbers, read-end}
 use Rattle.expression.specs.Expression.{Expression}
 use Rattle.expression.specs.Refusal.{Accepted, Refused}
 use Rattle.evaluation.specs.Lists.{Value, value, overflow, Evaluates}
-use Rattle.finder.specs.Outcome.{Outcome, RecordingLength, RecordingHead, RecordingChange, DrillLength, DrillForm, DrillLetter, DrillRange, DrillDepth, WorkShort, ListFull, AnswerShort, Finished, largest, returned, Comes, CallAs, BothKept, FindAs}
+use Rattle.finder.specs.Outcome.{Outcome, RecordingLength, RecordingHead, RecordingChange, DrillLength, DrillForm, DrillLetter, DrillRange, DrillDepth, WorkShort, Overflow, AnswerShort, Finished, largest, returned, Comes, CallAs, BothKept, FindAs}
 use Rattle.finder.specs.Demands.{Demand1, Demand2, Demand3}
 use Rattle.finder.specs.Steps.{WorkedAs}
 use Rattle.finder.proofs.Demands.{demand-1, demand-2, demand-3}
-use Rattle.finder.proofs.Turned.{NoneOf, recordings, drills, recording-call, drill-call, drill-none, work-call, full-call, answer-call, accepted-call}
+use Rattle.finder.proofs.Turned.{NoneOf, recordings, drills, recording-call, drill-call, drill-none, work-call, overflow-call, answer-call, accepted-call}
 
 pub kept : {answer work : List ℤ} → BothKept answer work answer work
 kept = record { answer-kept = refl; work-kept = refl }
@@ -26,12 +26,12 @@ pub promised : {bytes text : List ℕ} {answer work answer′ work′ : List ℤ
     → Demand1 bytes text answer work o answer′ work′ × (Demand2 bytes text o answer′ × Demand3 bytes text o)
 promised h = (demand-1 h, (demand-2 h, demand-3 h))
 
-module _ (bytes : List ℕ) (r : Recording) (read : reading largest bytes ≡ Recorded r) where
+module _ (bytes : List ℕ) (r : Dimensions) (read : reading largest bytes ≡ Recorded r) where
   pub was-read : ReadAs bytes r
   was-read = record { largest = largest; read = read }
 
   same-channels : r .channels ≡ channels bytes
-  same-channels = ap (λ (q : Recording). q .channels) (read-numbers was-read)
+  same-channels = ap (λ (q : Dimensions). q .channels) (read-numbers was-read)
 
   module _ (text : List ℕ) (answer work : ℕ) where
     none : NoneOf bytes text answer work recordings
@@ -51,7 +51,7 @@ module _ (bytes : List ℕ) (r : Recording) (read : reading largest bytes ≡ Re
 
     pub found : (o : Outcome) {answer work answer′ work′ : List ℤ} → WorkedAs (Evaluates (Shows bytes) 0 (r .ticks) e) o answer work answer′ work′ → FindAs bytes text answer work o answer′ work′
     found WorkShort {answer} {work} h = record { outcome = work-call bytes text (length answer) (length work) (ruled-out text (length answer) (length work) a) (h .0); buffers = h .1 }
-    found ListFull {answer} {work} h = record { outcome = full-call bytes text (length answer) (length work) (ruled-out text (length answer) (length work) a) (h .0) (comes overflow (h .1)); buffers = h .2 }
+    found Overflow {answer} {work} h = record { outcome = overflow-call bytes text (length answer) (length work) (ruled-out text (length answer) (length work) a) (h .0) (comes overflow (h .1)); buffers = h .2 }
     found AnswerShort {answer} {work} h = record { outcome = answer-call bytes text (length answer) (length work) (ruled-out text (length answer) (length work) a) (h .enough) (comes (value (h .list) (h .rounds)) (h .means)) (h .short); buffers = h .buffers }
     found (Finished zones rounds) {answer} {work} h =
         let c = comes (value (h .list) rounds) (h .means) in

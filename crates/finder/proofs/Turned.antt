@@ -13,10 +13,10 @@ use Rattle.recording.specs.Reading.{ticks, channels, reading}
 use Rattle.recording.proofs.Refusals.{exactly}
 use Rattle.recording.proofs.Rounding.{tick-range}
 use Rattle.expression.specs.Expression.{Expression}
-use Rattle.expression.specs.Refusal.{Accepted, Refused, Cause as DrillCause, wrong-length, no-form, wrong-letter, wrong-range, too-deep}
-use Rattle.expression.proofs.Answers.{answered}
+use Rattle.expression.specs.Refusal.{Accepted, Refused, DrillCause, wrong-length, no-form, wrong-letter, wrong-range, too-deep}
+use Rattle.expression.proofs.Parses.{answered}
 use Rattle.evaluation.specs.Lists.{Value, value, overflow}
-use Rattle.finder.specs.Outcome.{Outcome, RecordingLength, RecordingHead, RecordingChange, DrillLength, DrillForm, DrillLetter, DrillRange, DrillDepth, WorkShort, ListFull, AnswerShort, Finished, returned, Comes, largest, room, Cause, refusals, CallAs, CallAs.refused, CallAs.accepted}
+use Rattle.finder.specs.Outcome.{Outcome, RecordingLength, RecordingHead, RecordingChange, DrillLength, DrillForm, DrillLetter, DrillRange, DrillDepth, WorkShort, Overflow, AnswerShort, Finished, returned, Comes, largest, room, Cause, refusals, CallAs, CallAs.refused, CallAs.accepted}
 use Rattle.evaluation.proofs.Evaluation.{clash, evaluates-exists}
 use Rattle.finder.proofs.Causes.{recording-finite, comes-unique, same-number}
 
@@ -110,18 +110,18 @@ module _ (bytes text : List ℕ) (answer work : ℕ) where
       roomy : NoneOf (recordings ++ (drills ++ (WorkShort ∷ [])))
       roomy = none-append (recordings ++ drills) (WorkShort ∷ []) none (λ h. omega arith, tt)
 
-      pub full-call : Comes bytes text overflow → CallAs bytes text answer work ListFull
-      full-call c = turned (recordings ++ (drills ++ (WorkShort ∷ []))) _ ListFull refl roomy c
+      pub overflow-call : Comes bytes text overflow → CallAs bytes text answer work Overflow
+      overflow-call c = turned (recordings ++ (drills ++ (WorkShort ∷ []))) _ Overflow refl roomy c
 
       module _ {L : List Zone} {r : ℕ} (comes : Comes bytes text (value L r)) where
-        listed : NoneOf (recordings ++ (drills ++ (WorkShort ∷ ListFull ∷ [])))
-        listed = none-append (recordings ++ (drills ++ (WorkShort ∷ []))) (ListFull ∷ []) roomy (λ c. clash (comes-unique comes c), tt)
+        listed : NoneOf (recordings ++ (drills ++ (WorkShort ∷ Overflow ∷ [])))
+        listed = none-append (recordings ++ (drills ++ (WorkShort ∷ []))) (Overflow ∷ []) roomy (λ c. clash (comes-unique comes c), tt)
 
         pub answer-call : answer < length L * 6 → CallAs bytes text answer work AnswerShort
-        answer-call h = turned (recordings ++ (drills ++ (WorkShort ∷ ListFull ∷ []))) _ AnswerShort refl listed (L, r, comes, h)
+        answer-call h = turned (recordings ++ (drills ++ (WorkShort ∷ Overflow ∷ []))) _ AnswerShort refl listed (L, r, comes, h)
 
         pub accepted-call : length L * 6 ≤ answer → CallAs bytes text answer work (Finished (length L) r)
-        accepted-call h = accepted (none-of refusals (none-append (recordings ++ (drills ++ (WorkShort ∷ ListFull ∷ []))) (AnswerShort ∷ []) listed (long, tt))) comes refl
+        accepted-call h = accepted (none-of refusals (none-append (recordings ++ (drills ++ (WorkShort ∷ Overflow ∷ []))) (AnswerShort ∷ []) listed (long, tt))) comes refl
           where
             long : ¬ Cause bytes text answer work AnswerShort
             long c = let v = comes-unique comes (c .2) in let q : L ≡ c .0 = cc in let s = ap length q in let k = c .3 in omega arith
@@ -133,7 +133,7 @@ module _ (bytes text : List ℕ) (answer work : ℕ) where
   call-exists = read (reading largest bytes) refl
     where
       finish : NoneOf (recordings ++ drills) → room ≤ work → (v : Value) → Comes bytes text v → (o : Outcome) × CallAs bytes text answer work o
-      finish n h overflow c = (ListFull, full-call n h c)
+      finish n h overflow c = (Overflow, overflow-call n h c)
       finish n h (value L r) c = elim (decLe (length L * 6) answer) [
         | yes k ↦ (Finished (length L) r, accepted-call n h c k)
         | no k ↦ (AnswerShort, answer-call n h c (omega arith))

@@ -19,8 +19,8 @@ use Rattle.expression.specs.declared.Unary.the-variants.{Star}
 use Rattle.expression.specs.Expression.{Expression, unary}
 use Rattle.expression.specs.Grammar.{Form, alternative}
 use Rattle.evaluation.specs.Satisfies.{Stretch, Satisfies}
-use Rattle.evaluation.specs.Lists.{repeated, Turns, Sum}
-use Rattle.finder.specs.Outcome.{Outcome, RecordingLength, RecordingHead, RecordingChange, DrillLength, DrillForm, DrillLetter, DrillRange, DrillDepth, ListFull, returned, Cause, First, NoCause, frontOf, FindAs}
+use Rattle.evaluation.specs.Lists.{repeated, RoundsOf, Sum}
+use Rattle.finder.specs.Outcome.{Outcome, RecordingLength, RecordingHead, RecordingChange, DrillLength, DrillForm, DrillLetter, DrillRange, DrillDepth, Overflow, returned, Cause, First, NoCause, frontOf, FindAs}
 
 -- ==== Demand 1: the outcome and both buffers are the defined ones. "Each is given when its cause holds and no earlier one does, and never
 -- otherwise. A drill is accepted where no cause holds"
@@ -52,22 +52,22 @@ Demand2 bytes text o answer′ = returned o .number ≡ 0 → Exact bytes text (
 -- satisfying stretch is cut into at most n + d consecutive pieces that each satisfy f
 pub record Bounded (Shows : ℕ → Level → ℕ → Type 0) (from to : ℕ) (f : Expression) : Type 0 where
   pub rounds : ℕ
-  pub turns : Turns Shows from to f rounds
-  pub few : rounds ≤ length (turns .inner) + (to - from)
+  pub made : RoundsOf Shows from to f rounds
+  pub few : rounds ≤ length (made .inner) + (to - from)
   pub pieces : (x y : Time) → Stretch from to x y → Satisfies Shows (unary Star f) x y
-      → (n : ℕ) × (n ≤ length (turns .inner) + (to - from)) × Pieces (λ s t. Satisfies Shows f s t) n x y
+      → (n : ℕ) × (n ≤ length (made .inner) + (to - from)) × Pieces (λ s t. Satisfies Shows f s t) n x y
 
 -- of a recording and a drill: every `*` written, and the sum over all of them
 pub record Total (bytes text : List ℕ) (total : ℕ) : Type 0 where
   pub drill : Expression
   pub form : Form alternative text drill
   pub each : (f : Expression) → List·Memᴰ f (repeated drill) → Bounded (Shows bytes) 0 (ticks bytes) f
-  pub sum : Sum (Turns (Shows bytes) 0 (ticks bytes)) (repeated drill) total
+  pub sum : Sum (RoundsOf (Shows bytes) 0 (ticks bytes)) (repeated drill) total
 
 -- the causes that recording and drill alone decide, 1 to 8 and 10; they ask nothing of the buffers
 abbrev pub inputs : List Outcome
 inputs =
-    RecordingLength ∷ RecordingHead ∷ RecordingChange ∷ DrillLength ∷ DrillForm ∷ DrillLetter ∷ DrillRange ∷ DrillDepth ∷ ListFull ∷ []
+    RecordingLength ∷ RecordingHead ∷ RecordingChange ∷ DrillLength ∷ DrillForm ∷ DrillLetter ∷ DrillRange ∷ DrillDepth ∷ Overflow ∷ []
 
 abbrev pub NoInputCause : (bytes text : List ℕ) → Type 0
 NoInputCause bytes text = (p : Outcome) → List·Memᴰ p inputs → ¬ Cause bytes text 0 0 p

@@ -12,7 +12,7 @@ use Rattle.recording.specs.Reading.{ticks, channels, Sized, Headed, AllChanged}
 use Rattle.recording.specs.Levels.{Shows}
 use Rattle.expression.specs.Expression.{Expression}
 use Rattle.expression.specs.Grammar.{Form, alternative}
-use Rattle.expression.specs.Refusal.{Cause as DrillCause}
+use Rattle.expression.specs.Refusal.{DrillCause}
 use Rattle.evaluation.specs.Lists.{Value, value, overflow, Evaluates}
 pub use Rattle.finder.specs.declared.Returned.{Returned}
 pub use Rattle.finder.specs.declared.Outcome.{Outcome}
@@ -26,7 +26,7 @@ pub use Rattle.finder.specs.declared.Outcome.the-variants.{
   DrillRange,
   DrillDepth,
   WorkShort,
-  ListFull,
+  Overflow,
   AnswerShort,
   Finished,
 }
@@ -48,7 +48,7 @@ returned DrillLetter = refusal 6
 returned DrillRange = refusal 7
 returned DrillDepth = refusal 8
 returned WorkShort = refusal 9
-returned ListFull = refusal 10
+returned Overflow = refusal 10
 returned AnswerShort = refusal 11
 returned (Finished zones rounds) = record { number = 0; zones = zones; rounds = rounds }
 
@@ -84,7 +84,7 @@ Cause bytes text answer work DrillDepth = DrillCause text (channels bytes) 8
 -- "work buffer under 16,384 words"
 Cause bytes text answer work WorkShort = work < room
 -- "a put would leave a list of 129 zones"
-Cause bytes text answer work ListFull = Comes bytes text overflow
+Cause bytes text answer work Overflow = Comes bytes text overflow
 -- "answer buffer under 6 words a zone"
 Cause bytes text answer work AnswerShort = (L : List Zone) × (r : ℕ) × Comes bytes text (value L r) × (answer < length L * 6)
 Cause bytes text answer work (Finished zones rounds) = ⊥
@@ -92,7 +92,7 @@ Cause bytes text answer work (Finished zones rounds) = ⊥
 -- "Checked in the order of the numbers"
 abbrev pub refusals : List Outcome
 refusals =
-    RecordingLength ∷ RecordingHead ∷ RecordingChange ∷ DrillLength ∷ DrillForm ∷ DrillLetter ∷ DrillRange ∷ DrillDepth ∷ WorkShort ∷ ListFull ∷ AnswerShort ∷ []
+    RecordingLength ∷ RecordingHead ∷ RecordingChange ∷ DrillLength ∷ DrillForm ∷ DrillLetter ∷ DrillRange ∷ DrillDepth ∷ WorkShort ∷ Overflow ∷ AnswerShort ∷ []
 
 -- "Each is given when its cause holds and no earlier one does": o's place in the list of causes
 pub record First (bytes text : List ℕ) (answer work : ℕ) (o : Outcome) : Type 0 where
@@ -160,7 +160,7 @@ BuffersAs bytes text DrillLetter = BothKept
 BuffersAs bytes text DrillRange = BothKept
 BuffersAs bytes text DrillDepth = BothKept
 BuffersAs bytes text WorkShort = BothKept
-BuffersAs bytes text ListFull = AnswerKept
+BuffersAs bytes text Overflow = AnswerKept
 BuffersAs bytes text AnswerShort = AnswerKept
 BuffersAs bytes text (Finished zones rounds) = Delivered bytes text zones rounds
 

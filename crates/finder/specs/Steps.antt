@@ -6,7 +6,7 @@ use lib.ListN.{length}
 use lib.IntN.{ℤ}
 use Rattle.zone.specs.declared.Zone.{Zone}
 use Rattle.evaluation.specs.Lists.{Value, value, overflow}
-use Rattle.finder.specs.Outcome.{Outcome, RecordingLength, RecordingHead, RecordingChange, DrillLength, DrillForm, DrillLetter, DrillRange, DrillDepth, WorkShort, ListFull, AnswerShort, Finished, room, words, fronted, cleared, BothKept, AnswerKept}
+use Rattle.finder.specs.Outcome.{Outcome, RecordingLength, RecordingHead, RecordingChange, DrillLength, DrillForm, DrillLetter, DrillRange, DrillDepth, WorkShort, Overflow, AnswerShort, Finished, room, words, fronted, cleared, BothKept, AnswerKept}
 
 -- a stored drill worked out, where `comes` says to which value its expression comes: 9, 10, 11 or the finished list, with both buffers
 pub record Short (comes : Value → Type 0) (answer work answer′ work′ : List ℤ) : Type 0 where
@@ -28,7 +28,7 @@ pub record Full (comes : Value → Type 0) (zones rounds : ℕ) (answer work ans
 
 abbrev pub WorkedAs : (Value → Type 0) → Outcome → (answer work answer′ work′ : List ℤ) → Type 0
 WorkedAs comes WorkShort answer work answer′ work′ = (length work < room) × BothKept answer work answer′ work′
-WorkedAs comes ListFull answer work answer′ work′ = (room ≤ length work) × comes overflow × AnswerKept answer work answer′ work′
+WorkedAs comes Overflow answer work answer′ work′ = (room ≤ length work) × comes overflow × AnswerKept answer work answer′ work′
 WorkedAs comes AnswerShort answer work answer′ work′ = Short comes answer work answer′ work′
 WorkedAs comes (Finished zones rounds) answer work answer′ work′ = Full comes zones rounds answer work answer′ work′
 WorkedAs comes RecordingLength answer work answer′ work′ = ⊥

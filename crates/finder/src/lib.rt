@@ -1,8 +1,8 @@
 // The drill finder: a call, its outcome, what it leaves in both buffers, and the three demands on it.
 use evaluation::Evaluated;
 use expression::Parsed;
+use recording::Dimensions;
 use recording::Reading;
-use recording::Recording;
 ghost use mathlib.Core.Path.{_≡_};
 ghost use Prim.Native.Nat.{_*_, _≤_, min};
 ghost use lib.ListN.{length};
@@ -29,7 +29,7 @@ pub enum Outcome {
     DrillRange,
     DrillDepth,
     WorkShort,
-    ListFull,
+    Overflow,
     AnswerShort,
     Finished { zones: usize, rounds: u64 },
 }
@@ -69,7 +69,7 @@ fn deliver(work: &[i32], answer: &mut [i32], count: usize)
 // A stored drill worked out: its list evaluated in the work buffer and delivered, and the work buffer cleared.
 fn work_out(
     bytes: &[u8],
-    recording: Recording,
+    recording: Dimensions,
     nodes: &[u32],
     root: u32,
     answer: &mut [i32],
@@ -91,7 +91,7 @@ fn work_out(
         16,
     ) else {
         clear(work);
-        return Outcome::ListFull;
+        return Outcome::Overflow;
     };
     if answer.len() / 6 < count {
         clear(work);
@@ -108,7 +108,7 @@ fn work_out(
 // The drill read into the lent nodes, and worked out on a recording that has been read.
 fn read_into(
     bytes: &[u8],
-    recording: Recording,
+    recording: Dimensions,
     drill: &[u8],
     nodes: &mut [u32],
     answer: &mut [i32],
@@ -130,7 +130,7 @@ fn read_into(
 // The same with nodes of its own. An array is zeroed for each call, and most drills are short.
 fn read_drill(
     bytes: &[u8],
-    recording: Recording,
+    recording: Dimensions,
     drill: &[u8],
     answer: &mut [i32],
     work: &mut [i32],
@@ -186,7 +186,7 @@ impl Outcome {
             Outcome::DrillRange => refusal(7),
             Outcome::DrillDepth => refusal(8),
             Outcome::WorkShort => refusal(9),
-            Outcome::ListFull => refusal(10),
+            Outcome::Overflow => refusal(10),
             Outcome::AnswerShort => refusal(11),
             Outcome::Finished { zones, rounds } => Returned {
                 number: 0,

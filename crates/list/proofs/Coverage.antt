@@ -15,7 +15,7 @@ use Rattle.zone.specs.declared.MaybeZone.{MaybeZone}
 use Rattle.zone.specs.declared.MaybeZone.the-variants.{Zone as zone, Empty as empty}
 use Rattle.zone.specs.Zone.{contains, In, InMaybe, Proper}
 use Rattle.zone.proofs.Laws.{contains-refl, contains-trans, contains-in}
-use Rattle.list.specs.Insert.{most, covered, outside, Put, away, placed, full, insert, listed, after, insert-each}
+use Rattle.list.specs.Insert.{capacity, covered, outside, Put, away, placed, overflow, insert, listed, after, insert-each}
 use Rattle.list.specs.Members.{Lies, AllProper, Covered}
 use Rattle.list.specs.Antichain.{Apart, Antichain}
 
@@ -109,15 +109,15 @@ with-last z L = outside z L ++ (z ∷ [])
 
 -- what a put comes to, and when
 pub insert-cases : (z : Zone) (L : List Zone) (P : Put → Type 0) → (Covered z L → P away)
-    → (¬ Covered z L → length (outside z L) < most → P (placed (with-last z L)))
-    → (¬ Covered z L → most ≤ length (outside z L) → P full) → P (insert z L)
+    → (¬ Covered z L → length (outside z L) < capacity → P (placed (with-last z L)))
+    → (¬ Covered z L → capacity ≤ length (outside z L) → P overflow) → P (insert z L)
 unfolding insert
-insert-cases z L P f g h = go (covered z L) (ltb (length (outside z L)) most) refl refl
+insert-cases z L P f g h = go (covered z L) (ltb (length (outside z L)) capacity) refl refl
   where
-    go : (a b : Bool) → covered z L ≡ a → ltb (length (outside z L)) most ≡ b → P (cond a away (cond b (placed (with-last z L)) full))
+    go : (a b : Bool) → covered z L ≡ a → ltb (length (outside z L)) capacity ≡ b → P (cond a away (cond b (placed (with-last z L)) overflow))
     go true b p q = f (covered-by z L (subst T (sym p) tt))
-    go false true p q = g (λ c. subst T p (covered-is z L .1 c)) (ltb-true (length (outside z L)) most q)
-    go false false p q = h (λ c. subst T p (covered-is z L .1 c)) (ltb-false (length (outside z L)) most q)
+    go false true p q = g (λ c. subst T p (covered-is z L .1 c)) (ltb-true (length (outside z L)) capacity q)
+    go false false p q = h (λ c. subst T p (covered-is z L .1 c)) (ltb-false (length (outside z L)) capacity q)
 
 -- ---- puts one after the other
 
@@ -126,7 +126,7 @@ pub data Puts : List MaybeZone → List Zone → List Zone → Type 0 where
   done : {L : List Zone} → Puts [] L L
   pass : {rest : List MaybeZone} {L M : List Zone} → Puts rest L M → Puts (empty ∷ rest) L M
   stay : {z : Zone} {rest : List MaybeZone} {L M : List Zone} → Covered z L → Puts rest L M → Puts (zone z ∷ rest) L M
-  place : {z : Zone} {rest : List MaybeZone} {L M : List Zone} → ¬ Covered z L → length (outside z L) < most → Puts rest (with-last z L) M → Puts (zone z ∷ rest) L M
+  place : {z : Zone} {rest : List MaybeZone} {L M : List Zone} → ¬ Covered z L → length (outside z L) < capacity → Puts rest (with-last z L) M → Puts (zone z ∷ rest) L M
 
 pub puts : (rs : List MaybeZone) (L : List Zone) {M : List Zone} → insert-each rs L ≡ listed M → Puts rs L M
 unfolding insert-each
@@ -189,7 +189,7 @@ puts-antichain (place {z} {L = L} n _ p) h =
     (last-antichain z (outside z L) (outside-antichain z L h) (λ y m. let k = outside-mem z L m in (λ i. n (y, k .0, i), k .1)))
 
 -- .. and there are no more than 128
-pub puts-length : {rs : List MaybeZone} {L M : List Zone} → Puts rs L M → length L ≤ most → length M ≤ most
+pub puts-length : {rs : List MaybeZone} {L M : List Zone} → Puts rs L M → length L ≤ capacity → length M ≤ capacity
 puts-length done h = h
 puts-length (pass p) h = puts-length p h
 puts-length (stay _ p) h = puts-length p h

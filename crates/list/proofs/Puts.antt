@@ -10,11 +10,11 @@ use borrow.Author.Tests.{lt-ltb, le-ltb}
 use Rattle.zone.specs.declared.Zone.{Zone}
 use Rattle.words.specs.Words.{zoneAt, codes, overwrite}
 use Rattle.words.proofs.Words.{written-zone}
-use Rattle.list.specs.Insert.{covered, outside, away, placed, full, insert}
+use Rattle.list.specs.Insert.{covered, outside, away, placed, overflow, insert}
 use Rattle.list.specs.Slots.{listAt, Holds, Kept, Placement, InsertAs}
 use Rattle.list.specs.Steps.{AppendAs}
 use Rattle.list.specs.declared.Inserted.{Inserted}
-use Rattle.list.specs.declared.Inserted.the-variants.{Away, Placed, Full}
+use Rattle.list.specs.declared.Inserted.the-variants.{Away, Placed, Overflow}
 use Rattle.list.proofs.Slots.{listAt-length, holds-more, kept-trans, kept-within, kept-written}
 
 module _ (z : Zone) (L : List Zone) where
@@ -26,9 +26,9 @@ module _ (z : Zone) (L : List Zone) where
   unfolding insert
   insert-placed e h = rw (e, lt-ltb (length (outside z L)) 128 h)
 
-  pub insert-full : covered z L ≡ false → 128 ≤ length (outside z L) → insert z L ≡ full
+  pub insert-overflow : covered z L ≡ false → 128 ≤ length (outside z L) → insert z L ≡ overflow
   unfolding insert
-  insert-full e h = rw (e, le-ltb (length (outside z L)) 128 h)
+  insert-overflow e h = rw (e, le-ltb (length (outside z L)) 128 h)
 
 -- ---- a put into a slot
 
@@ -37,8 +37,8 @@ pub held : (z : Zone) {us : List ℤ} (vs : List ℤ) → us ≡ overwrite vs 0 
 held z {us} vs e h = ap (λ (ws : List ℤ). zoneAt ws 0) e ∙ written-zone vs 0 z (omega arith)
 
 module _ (z : Zone) (ws : List ℤ) {us : List ℤ} (base n : ℕ) {m : ℕ} (new : covered z (listAt ws base n) ≡ false) (left : Holds us base m (outside z (listAt ws base n))) where
-  no-place : 128 ≤ m → insert z (listAt ws base n) ≡ full
-  no-place h = insert-full z (listAt ws base n) new (omega (arith, left .count))
+  no-place : 128 ≤ m → insert z (listAt ws base n) ≡ overflow
+  no-place h = insert-overflow z (listAt ws base n) new (omega (arith, left .count))
 
   placement : {vs : List ℤ} → Kept base 768 ws us → m < 128 → base + 768 ≤ length ws → vs ≡ overwrite us (base + m * 6) (codes z) → Placement z ws base n vs (m + 1)
   placement {vs} k h fits e =
@@ -54,7 +54,7 @@ module _ (z : Zone) (ws : List ℤ) {us : List ℤ} (base n : ℕ) {m : ℕ} (ne
   pub appended : (vs : List ℤ) → Kept base 768 ws us → base + 768 ≤ length ws → (r : Inserted) → AppendAs z us base m vs r → InsertAs z ws base n vs r
   appended vs k fits Away a = absurd a
   appended vs k fits (Placed j) a = subst (Placement z ws base n vs) (sym (a .0)) (placement k (a .1) fits (a .2))
-  appended vs k fits Full a = (no-place (a .0), subst (λ (xs : List ℤ). Kept base 768 ws xs) (sym (a .1)) k)
+  appended vs k fits Overflow a = (no-place (a .0), subst (λ (xs : List ℤ). Kept base 768 ws xs) (sym (a .1)) k)
 
 -- ---- a list that grows
 

@@ -12,7 +12,7 @@ use Rattle.zone.specs.declared.Zone.{Zone}
 use Rattle.zone.specs.declared.MaybeZone.{MaybeZone}
 use Rattle.zone.specs.declared.MaybeZone.the-variants.{Zone as zone}
 use Rattle.zone.specs.Zone.{contains, In, Proper}
-use Rattle.list.specs.Insert.{most, covered, outside, away, placed, insert, listed, insert-each}
+use Rattle.list.specs.Insert.{capacity, covered, outside, away, placed, insert, listed, insert-each}
 use Rattle.list.specs.Members.{Lies, AllProper, Covered}
 use Rattle.list.specs.Antichain.{Antichain}
 use Rattle.list.proofs.Coverage as coverage
@@ -62,7 +62,7 @@ module _ (rs : List MaybeZone) (L : List Zone) {M : List Zone} (e : insert-each 
   each-antichain = coverage.puts-antichain went
 
   -- .. and there are no more than 128
-  pub each-length : length L ≤ most → length M ≤ most
+  pub each-length : length L ≤ capacity → length M ≤ capacity
   each-length = coverage.puts-length went
 
 -- M is what one put leaves that was not turned away
@@ -94,10 +94,10 @@ module _ (z : Zone) (L : List Zone) {M : List Zone} (e : insert z L ≡ placed M
   placed-antichain = each-antichain (zone z ∷ []) L alone
 
   -- .. and there are no more than 128, whatever the length of L
-  pub placed-length : length M ≤ most
+  pub placed-length : length M ≤ capacity
   placed-length =
-      insert-cases z L (λ p. p ≡ placed M → length M ≤ most) (λ _ q. clash (cc))
-      (λ _ h q. let m : outside z L ++ (z ∷ []) ≡ M = cc in subst (λ (K : List Zone). length K ≤ most) m (omega (arith, length-append (outside z L) (z ∷ [])))) (λ _ _ q. clash (cc)) e
+      insert-cases z L (λ p. p ≡ placed M → length M ≤ capacity) (λ _ q. clash (cc))
+      (λ _ h q. let m : outside z L ++ (z ∷ []) ≡ M = cc in subst (λ (K : List Zone). length K ≤ capacity) m (omega (arith, length-append (outside z L) (z ∷ [])))) (λ _ _ q. clash (cc)) e
 
 -- ==== 2. The list of each operator: what lies in it, and that it is well formed where the lists of its operands are
 
@@ -105,7 +105,7 @@ module _ (z : Zone) (L : List Zone) {M : List Zone} (e : insert z L ≡ placed M
 pub record WellFormed (from to : ℕ) (L : List Zone) : Type 0 where
   pub proper : AllProper from to L
   pub antichain : Antichain L
-  pub short : length L ≤ most
+  pub short : length L ≤ capacity
 
 -- L is built by putting rs into an empty list: the stretches of the zones put, and no others
 module _ (rs : List MaybeZone) {L : List Zone} (e : insert-each rs [] ≡ listed L) where

@@ -10,8 +10,8 @@ use Rattle.zone.specs.declared.MaybeZone.{MaybeZone}
 use Rattle.zone.specs.declared.MaybeZone.the-variants.{Zone as zone, Empty as empty}
 use Rattle.zone.specs.Zone.{contains}
 
-abbrev pub most : ℕ
-most = 128
+abbrev pub capacity : ℕ
+capacity = 128
 
 -- z lies inside a listed zone
 unfoldable pub covered : Zone → List Zone → Bool
@@ -27,20 +27,20 @@ outside z (y ∷ L) = cond (contains z y) (outside z L) (y ∷ outside z L)
 pub data Put : Type 0 where
   away : Put
   placed : List Zone → Put
-  full : Put
+  overflow : Put
 
 unfoldable pub insert : Zone → List Zone → Put
-insert z L = cond (covered z L) away (cond (ltb (length (outside z L)) most) (placed (outside z L ++ (z ∷ []))) full)
+insert z L = cond (covered z L) away (cond (ltb (length (outside z L)) capacity) (placed (outside z L ++ (z ∷ []))) overflow)
 
 -- what a list of puts comes to: a list, or that one of them would leave 129 zones
 pub data Built : Type 0 where
   listed : List Zone → Built
-  overfull : Built
+  overflow : Built
 
 abbrev pub after : Put → List Zone → (List Zone → Built) → Built
 after away L next = next L
 after (placed M) L next = next M
-after full L next = overfull
+after overflow L next = overflow
 
 -- zones put one after the other, an empty answer being passed over
 unfoldable pub insert-each : List MaybeZone → List Zone → Built

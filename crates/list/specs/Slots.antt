@@ -7,10 +7,14 @@ use lib.IntN.{ℤ}
 use lib.ListN.{length}
 use Rattle.zone.specs.declared.Zone.{Zone}
 use Rattle.words.specs.Words.{word, zoneAt}
-use Rattle.list.specs.Insert.{away, placed, full, insert}
+use Rattle.list.specs.Insert.{away, placed, overflow, insert}
 use Rattle.list.specs.Members.{AllProper}
 use Rattle.list.specs.declared.Inserted.{Inserted}
-use Rattle.list.specs.declared.Inserted.the-variants.{Away, Placed, Full}
+use Rattle.list.specs.declared.Inserted.the-variants.{Away, Placed, Overflow}
+
+-- the words of a slot
+abbrev pub slot-words : ℕ
+slot-words = 768
 
 -- the n zones whose words stand from `base` on
 unfoldable pub listAt : List ℤ → ℕ → ℕ → List Zone
@@ -58,7 +62,7 @@ pub record Placement (z : Zone) (ws : List ℤ) (base n : ℕ) (vs : List ℤ) (
 abbrev pub InsertAs : Zone → List ℤ → ℕ → ℕ → List ℤ → Inserted → Type 0
 InsertAs z ws base n vs Away = (insert z (listAt ws base n) ≡ away) × (vs ≡ ws)
 InsertAs z ws base n vs (Placed m) = Placement z ws base n vs m
-InsertAs z ws base n vs Full = (insert z (listAt ws base n) ≡ full) × Kept base 768 ws vs
+InsertAs z ws base n vs Overflow = (insert z (listAt ws base n) ≡ overflow) × Kept base 768 ws vs
 
 -- every word outside the two slots is as it was
 pub record KeptBoth (a b : ℕ) (ws vs : List ℤ) : Type 0 where

@@ -12,7 +12,7 @@ use Rattle.list.specs.Slots.{listAt, Kept}
 use Rattle.list.specs.declared.Look.{Look}
 use Rattle.list.specs.declared.Look.the-variants.{Held, Apart, One, Several}
 use Rattle.list.specs.declared.Inserted.{Inserted}
-use Rattle.list.specs.declared.Inserted.the-variants.{Away, Placed, Full}
+use Rattle.list.specs.declared.Inserted.the-variants.{Away, Placed, Overflow}
 
 -- n words copied from `from` to `to`, all others as they were
 pub record Copied (from to n : ℕ) (ws vs : List ℤ) : Type 0 where
@@ -59,4 +59,4 @@ AlsoAs seen i r = (z : Zone) (ws : List ℤ) (base : ℕ) → LookAs z ws base i
 abbrev pub AppendAs : Zone → List ℤ → ℕ → ℕ → List ℤ → Inserted → Type 0
 AppendAs z ws base n vs Away = ⊥
 AppendAs z ws base n vs (Placed m) = (m ≡ n + 1) × (n < 128) × (vs ≡ overwrite ws (base + n * 6) (codes z))
-AppendAs z ws base n vs Full = (128 ≤ n) × (vs ≡ ws)
+AppendAs z ws base n vs Overflow = (128 ≤ n) × (vs ≡ ws)

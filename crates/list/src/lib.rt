@@ -14,11 +14,16 @@ ghost use Rattle.list.specs.Insert.{outside};
 ghost use Rattle.list.specs.Slots.{listAt, Slot, Holds, Kept, Disjoint, InsertAs};
 ghost use Rattle.list.specs.Steps.{Copied, KeepsAs, Sifting, LookAs, AlsoAs, AppendAs};
 
+// The zones that a list has at most, and the words of a slot, which has room for them.
+pub const CAPACITY: usize = 128;
+
+pub const SLOT_WORDS: usize = CAPACITY * words::ZONE_WORDS;
+
 // What a put comes to: turned away, placed with the new count, or a list that would have 129 zones.
 pub enum Inserted {
     Away,
     Placed(usize),
-    Full,
+    Overflow,
 }
 
 // What a new zone meets in a list: a zone that holds it; else only zones apart from it; or one inside it, at this place;
@@ -126,8 +131,8 @@ fn append(words: &mut [i32], base: usize, n: usize, w: &[i32; 6]) -> Inserted
     requires { ⌜ Slot (now words) base n ⌝ }
     ensures { λ r. ⌜ AppendAs (zoneAt (now (w .entry)) 0) (now (words .entry)) base n (now (words .exit)) r ⌝ }
 {
-    if 128 <= n {
-        return Inserted::Full;
+    if CAPACITY <= n {
+        return Inserted::Overflow;
     }
     words::copy_zone(words, base + n * 6, w, 0);
     Inserted::Placed(n + 1)

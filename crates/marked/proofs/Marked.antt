@@ -10,7 +10,7 @@ use lib.IntN.{ℤ}
 use lib.ListN.{length}
 use Rattle.zone.specs.declared.Zone.{Zone}
 use Rattle.zone.specs.Limit.{lesser, _⊕_}
-use Rattle.zone.specs.Zone.{tighter, where-room, tighten, both, meet, joined, compose, run, diagonal, everything, limited, band as bandOf}
+use Rattle.zone.specs.Zone.{tighter, where-room, tighten, both, meet, across, compose, run, diagonal, everything, limited, band as bandOf}
 use Rattle.list.specs.Insert.{covered, outside, insert, insert-each}
 use Rattle.operators.specs.Operators.{union as unite, pairs, meets, compositions, banded}
 use Rattle.recording.specs.Reading.{tick, le16, le32, ticks, channels}
@@ -21,11 +21,11 @@ use Rattle.recording.specs.declared.Reading.the-variants.{Recorded}
 use Rattle.recording.proofs.Examples.{R as example}
 use Rattle.expression.specs.Expression.{Expression, depth}
 use Rattle.expression.specs.Refusal.{Accepted}
-use Rattle.expression.specs.Descent.{yes, branch, bind, starts, rest, expect, ranged, digits, number, upper, limits, marks, joining, read, height, descent}
+use Rattle.expression.specs.Descent.{yes, branch, bind, starts, rest, expect, ranged, digits, number, upper, limits, postfixes, joining, read, height, descent}
 use Rattle.expression.specs.declared.Join.the-variants.{Union as bars}
 use Rattle.expression.specs.Readers.{width, wrong}
 use Rattle.expression.proofs.Complete.{whole-sound}
-use Rattle.expression.proofs.Answers.{right-length, accepted}
+use Rattle.expression.proofs.Parses.{right-length, accepted}
 use Rattle.evaluation.specs.Lists.{value, ended, Then.goes, runZones, Letter, Evaluates}
 use Rattle.finder.specs.declared.Outcome.the-variants.{Finished}
 use Rattle.finder.specs.Outcome.{Comes, room, words, fronted, cleared, FindAs}
@@ -95,8 +95,8 @@ each (h ⨾ hs) (List·Memᴰ·tail m) = each hs m
 -- Every row of the table holds. A drill's proof is that its text is read, that it passes the tests, and how its list comes of those of `a` and
 -- `!a`; the rest is computed.
 pub marked-set : (x : Row) → List·Memᴰ x marked → Holds x
-unfolding tick le32 le16 descent read height branch bind starts rest expect ranged digits number upper limits marks width wrong depth
-    lesser _⊕_ tighter where-room tighten both meet joined compose run diagonal everything limited bandOf covered outside insert insert-each unite pairs meets compositions banded
+unfolding tick le32 le16 descent read height branch bind starts rest expect ranged digits number upper limits postfixes width wrong depth
+    lesser _⊕_ tighter where-room tighten both meet across compose run diagonal everything limited bandOf covered outside insert insert-each unite pairs meets compositions banded
 marked-set x =
     let a = spelt (example .highs-are) in
     let not-a = spelt (example .lows-are) in

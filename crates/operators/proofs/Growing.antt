@@ -13,10 +13,10 @@ use Rattle.zone.specs.Zone.{Proper}
 use Rattle.words.specs.Words.{zoneAt}
 use Rattle.zone.proofs.Laws.{proper-meet, proper-compose, ranged}
 use Rattle.words.proofs.Words.{same-zone}
-use Rattle.list.specs.Insert.{Built, overfull, insert-each}
+use Rattle.list.specs.Insert.{Built, overflow, insert-each}
 use Rattle.operators.specs.Operators.{Operation, Meet, Compose, apply, pairs}
 use Rattle.list.specs.Slots.{listAt, Source, Kept, Disjoint}
-use Rattle.operators.specs.Steps.{Mark, Growth, Writable, Operand}
+use Rattle.operators.specs.Steps.{Alters, Growth, Writable, Operand}
 use Rattle.list.proofs.Slots.{listAt-next, kept-refl, kept-trans, kept-apart, list-there}
 use Rattle.list.proofs.Puts.{holds-same}
 use Rattle.operators.proofs.Loops.{then, insert-each-append}
@@ -60,10 +60,10 @@ pub record Going (todo : List MaybeZone) (whole : Built) (before : Bool) (L₀ :
   pub few : n ≤ 128
   pub frame : Kept target 768 ws₀ ws
   pub value : insert-each todo (listAt ws target n) ≡ whole
-  pub marks : (S : List Zone) → Mark before S L₀ → Mark changed S (listAt ws target n)
+  pub alters : (S : List Zone) → Alters before S L₀ → Alters changed S (listAt ws target n)
 
 pub going-start : (todo : List MaybeZone) (changed : Bool) (target : ℕ) (ws : List ℤ) (n : ℕ) → n ≤ 128 → Going todo (insert-each todo (listAt ws target n)) changed (listAt ws target n) target ws ws n changed
-going-start todo changed target ws n h = record { few = h; frame = kept-refl target 768 ws; value = refl; marks = λ S m. m }
+going-start todo changed target ws n h = record { few = h; frame = kept-refl target 768 ws; value = refl; alters = λ S m. m }
 
 module _ {whole : Built} {before changed : Bool} {L₀ : List Zone} {target : ℕ} {ws₀ ws : List ℤ} {n : ℕ} where
   pub going-same : {todo other : List MaybeZone} → todo ≡ other → Going todo whole before L₀ target ws₀ ws n changed → Going other whole before L₀ target ws₀ ws n changed
@@ -72,7 +72,7 @@ module _ {whole : Built} {before changed : Bool} {L₀ : List Zone} {target : �
   -- an empty answer is passed over
   pub going-past : {todo : List MaybeZone} → Going (empty ∷ todo) whole before L₀ target ws₀ ws n changed → Going todo whole before L₀ target ws₀ ws n changed
   unfolding insert-each
-  going-past g = record { few = g .few; frame = g .frame; value = g .value; marks = g .marks }
+  going-past g = record { few = g .few; frame = g .frame; value = g .value; alters = g .alters }
 
   module _ (rs todo : List MaybeZone) (g : Going (rs ++ todo) whole before L₀ target ws₀ ws n changed) where
     both : then (insert-each rs (listAt ws target n)) (insert-each todo) ≡ whole
@@ -85,11 +85,11 @@ module _ {whole : Built} {before changed : Bool} {L₀ : List Zone} {target : �
           few = w .holds .few;
           frame = kept-trans (g .frame) f;
           value = ap (insert-each todo) (w .holds .zones) ∙ ap (λ (r : Built). then r (insert-each todo)) (sym (w .value)) ∙ both;
-          marks = λ S m. subst (Mark b S) (sym (w .holds .zones)) (w .marks S (g .marks S m));
+          alters = λ S m. subst (Alters b S) (sym (w .holds .zones)) (w .alters S (g .alters S m));
         }
 
     -- one of them would have left 129 zones
-    pub going-over : insert-each rs (listAt ws target n) ≡ overfull → whole ≡ overfull
+    pub going-over : insert-each rs (listAt ws target n) ≡ overflow → whole ≡ overflow
     going-over e = sym both ∙ ap (λ (r : Built). then r (insert-each todo)) e
 
   -- nothing is left to put
@@ -100,7 +100,7 @@ module _ {whole : Built} {before changed : Bool} {L₀ : List Zone} {target : �
         list = listAt ws target n;
         value = sym (g .value) ∙ ap (λ (t : List MaybeZone). insert-each t (listAt ws target n)) e;
         holds = holds-same ws target n (g .few);
-        marks = g .marks;
+        alters = g .alters;
       }
 
 -- ---- what is still to come of a list, when its i-th zone is at hand

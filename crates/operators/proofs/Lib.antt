@@ -4,4 +4,4 @@ pub mod Theorems
 pub mod Loops
 pub mod Puts
 pub mod Growing
-pub mod Answers
+pub mod Listings

@@ -10,18 +10,18 @@ use Rattle.list.specs.Insert.{insert-each}
 use Rattle.list.specs.Slots.{listAt, Holds, Kept, InsertAs}
 use Rattle.operators.specs.Steps.{GrownAs}
 use Rattle.list.specs.declared.Inserted.{Inserted}
-use Rattle.list.specs.declared.Inserted.the-variants.{Away, Placed, Full}
+use Rattle.list.specs.declared.Inserted.the-variants.{Away, Placed, Overflow}
 use Rattle.operators.specs.declared.Grown.{Grown}
-use Rattle.operators.specs.declared.Grown.the-variants.{Grew, TooMany}
+use Rattle.operators.specs.declared.Grown.the-variants.{Grew, Overflow}
 use Rattle.list.proofs.Slots.{kept-refl}
-use Rattle.operators.proofs.Loops.{mark-placed}
+use Rattle.operators.proofs.Loops.{alters-placed}
 use Rattle.list.proofs.Puts.{holds-same}
 
 -- the answer of `grow` to the answer of a put
 abbrev pub grown-by : Bool → ℕ → Inserted → Grown
 grown-by changed n Away = Grew n changed
 grown-by changed n (Placed k) = Grew k true
-grown-by changed n Full = TooMany
+grown-by changed n Overflow = Overflow
 
 module _ (z : Zone) (ws vs : List ℤ) (target n : ℕ) (changed : Bool) (few : n ≤ 128) where
   -- what the answer to a put means for the puts of one zone
@@ -32,12 +32,12 @@ module _ (z : Zone) (ws vs : List ℤ) (target n : ℕ) (changed : Bool) (few : 
         list = listAt ws target n;
         value = rw (a .0);
         holds = subst (λ (xs : List ℤ). Holds xs target n (listAt ws target n)) (sym (a .1)) (holds-same ws target n few);
-        marks = λ S m. m;
+        alters = λ S m. m;
       }
-  grown (Placed k) p = record { list = p .list; value = rw (p .value); holds = p .holds; marks = λ S m. mark-placed changed z (listAt ws target n) m (p .value) }
-  grown Full a = rw (a .0)
+  grown (Placed k) p = record { list = p .list; value = rw (p .value); holds = p .holds; alters = λ S m. alters-placed changed z (listAt ws target n) m (p .value) }
+  grown Overflow a = rw (a .0)
 
   pub grown-kept : (r : Inserted) → InsertAs z ws target n vs r → Kept target 768 ws vs
   grown-kept Away a = subst (λ (xs : List ℤ). Kept target 768 ws xs) (sym (a .1)) (kept-refl target 768 ws)
   grown-kept (Placed k) p = p .kept
-  grown-kept Full a = a .1
+  grown-kept Overflow a = a .1

@@ -1,3 +1,3 @@
 pub mod Operators
-pub mod Answers
+pub mod Listing
 pub mod Steps

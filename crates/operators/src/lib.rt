@@ -15,7 +15,7 @@ ghost use Rattle.zone.specs.Zone.{Proper};
 ghost use Rattle.list.specs.Insert.{insert-each};
 ghost use Rattle.operators.specs.Operators.{apply, pairs, union, meets, compositions, banded};
 ghost use Rattle.list.specs.Slots.{listAt, Slot, Source, Kept, KeptBoth, Disjoint};
-ghost use Rattle.operators.specs.Answers.{SoundBand, BuiltAs};
+ghost use Rattle.operators.specs.Listing.{SoundBand, BuiltAs};
 ghost use Rattle.operators.specs.Steps.{Writable, AppliedAs, Operand, GrowsAs};
 
 // The operations on pairs of zones.
@@ -27,13 +27,13 @@ pub enum Operation {
 // What an operator comes to: a list with its count, or one that would have 129 zones.
 pub enum Listed {
     Count(usize),
-    Overfull,
+    Overflow,
 }
 
 // A list that grew by puts, with whether any of them was placed.
 pub enum Grown {
     Grew { count: usize, changed: bool },
-    TooMany,
+    Overflow,
 }
 
 // Whether an operation left a zone, whose six words it has then written.
@@ -54,7 +54,7 @@ pub fn grow(words: &mut [i32], target: usize, count: usize, changed: bool, w: &[
             count: n,
             changed: true,
         },
-        Inserted::Full => Grown::TooMany,
+        Inserted::Overflow => Grown::Overflow,
     }
 }
 
@@ -100,7 +100,7 @@ fn each_right(
 {
     let mut out = [0i32; 6];
     let mut n = count;
-    let mut mark = changed;
+    let mut altered = changed;
     let mut j = 0;
     while j < m {
         let z = words::read_zone(words, left);
@@ -112,16 +112,16 @@ fn each_right(
         let Grown::Grew {
             count: k,
             changed: b,
-        } = grow(words, target, n, mark, &out)
+        } = grow(words, target, n, altered, &out)
         else {
-            return Grown::TooMany;
+            return Grown::Overflow;
         };
         n = k;
-        mark = b;
+        altered = b;
     }
     Grown::Grew {
         count: n,
-        changed: mark,
+        changed: altered,
     }
 }
 
@@ -141,23 +141,23 @@ pub fn each_pair(
     ensures kept { λ _. ⌜ Kept target 768 (now (words .entry)) (now (words .exit)) ⌝ }
 {
     let mut k = count;
-    let mut mark = false;
+    let mut altered = false;
     let mut i = 0;
     while i < n {
         let Grown::Grew {
             count: next,
             changed: b,
-        } = each_right(words, op, left + i * 6, right, m, target, k, mark)
+        } = each_right(words, op, left + i * 6, right, m, target, k, altered)
         else {
-            return Grown::TooMany;
+            return Grown::Overflow;
         };
         k = next;
-        mark = b;
+        altered = b;
         i += 1;
     }
     Grown::Grew {
         count: k,
-        changed: mark,
+        changed: altered,
     }
 }
 
@@ -179,23 +179,23 @@ fn each_zone(words: &mut [i32], source: usize, n: usize, target: usize, count: u
     ensures kept { λ _. ⌜ Kept target 768 (now (words .entry)) (now (words .exit)) ⌝ }
 {
     let mut k = count;
-    let mut mark = false;
+    let mut altered = false;
     let mut i = 0;
     while i < n {
         let Grown::Grew {
             count: next,
             changed: b,
-        } = grow_from(words, source + i * 6, target, k, mark)
+        } = grow_from(words, source + i * 6, target, k, altered)
         else {
-            return Grown::TooMany;
+            return Grown::Overflow;
         };
         k = next;
-        mark = b;
+        altered = b;
         i += 1;
     }
     Grown::Grew {
         count: k,
-        changed: mark,
+        changed: altered,
     }
 }
 
@@ -217,10 +217,10 @@ pub fn union(
         changed: _,
     } = each_zone(words, left, n, target, 0)
     else {
-        return Listed::Overfull;
+        return Listed::Overflow;
     };
     let Grown::Grew { count, changed: _ } = each_zone(words, right, m, target, k) else {
-        return Listed::Overfull;
+        return Listed::Overflow;
     };
     Listed::Count(count)
 }
@@ -241,7 +241,7 @@ fn all_pairs(
 {
     let Grown::Grew { count, changed: _ } = each_pair(words, op, left, n, right, m, target, 0)
     else {
-        return Listed::Overfull;
+        return Listed::Overflow;
     };
     Listed::Count(count)
 }

@@ -15,7 +15,7 @@ use Rattle.recording.specs.Levels.{levelIn, Stands, Shows, reported, unr
 use Rattle.recording.specs.Scan.{begins, leaves, sameLevel}
 use Rattle.recording.specs.declared.Level.{Level}
 use Rattle.recording.specs.declared.Level.the-variants.{High, Low}
-use Rattle.recording.specs.declared.Recording.{Recording}
+use Rattle.recording.specs.declared.Dimensions.{Dimensions}
 use Rattle.recording.proofs.Rounding.{tick-mono}
 use Rattle.recording.proofs.Refusals.{read-changed}
 
@@ -120,7 +120,7 @@ module _ (bytes : List ℕ) where
   by-change channel level k (suc j) h b = rw (le-leb _ _ (rw (begins-change (suc j) (omega arith) h) at b))
 
 -- of bytes that were read as a recording
-module _ {bytes : List ℕ} {r : Recording} (read : ReadAs bytes r) where
+module _ {bytes : List ℕ} {r : Dimensions} (read : ReadAs bytes r) where
   -- no change holds before the one before it
   begins-next : (j : ℕ) → begins bytes j ≤ begins bytes (j + 1)
   unfolding begins

@@ -13,7 +13,7 @@ use lib.Dec.{leb, ltb, eqb}
 use lib.Pow.{shl-exact}
 use lib.ListN.{length}
 use Rattle.recording.specs.Reading.{Sized, Headed, Changed, AllChanged, ReadAs, sized, headed, changed, allChanged, reading, number, numbers, marked, headMark, changeMark, duration, channels, changes, time, levels, byteAt, ticks}
-use Rattle.recording.specs.declared.Recording.{Recording}
+use Rattle.recording.specs.declared.Dimensions.{Dimensions}
 use Rattle.recording.specs.declared.Reading.{Reading}
 use Rattle.recording.specs.declared.Reading.the-variants.{WrongLength, WrongHead, WrongChange, Recorded}
 use Rattle.recording.proofs.Rounding.{tick-range}
@@ -210,7 +210,7 @@ refused largest bytes o h =
     (λ e. exactly largest bytes o .0 (same-number (reading largest bytes) o h e), λ d. ap number (exactly largest bytes o .1 d))
 
 -- what is known of bytes that were read as a recording
-module _ {bytes : List ℕ} {r : Recording} (read : ReadAs bytes r) where
+module _ {bytes : List ℕ} {r : Dimensions} (read : ReadAs bytes r) where
   read-due : Due (read .largest) bytes (Recorded r)
   read-due = exactly (read .largest) bytes (Recorded r) .0 (read .read)
 
@@ -225,10 +225,10 @@ module _ {bytes : List ℕ} {r : Recording} (read : ReadAs bytes r) where
   read-numbers = read-due .3
 
   pub read-count : r .changes ≡ changes bytes
-  read-count = ap (λ (q : Recording). q .changes) read-numbers
+  read-count = ap (λ (q : Dimensions). q .changes) read-numbers
 
   pub read-end : r .ticks ≡ ticks bytes
-  read-end = ap (λ (q : Recording). q .ticks) read-numbers
+  read-end = ap (λ (q : Dimensions). q .ticks) read-numbers
 
   -- change j lies within the bytes, and its time is small
   pub read-room : (j : ℕ) → j ≤ changes bytes → 8 * j + 8 ≤ length bytes

@@ -9,7 +9,7 @@ use native.Mathlib.Decide.{decLe, ℕ-discrete}
 use native.Mathlib.Omega.{arith}
 use borrow.Author.Tests.{ltb-true, ltb-false}
 use lib.Dec.{ltb}
-use Rattle.recording.specs.Runs.{Maximal, Rising, none, next, Runs, First}
+use Rattle.recording.specs.Runs.{Maximal, Rising, none, next, Runs, FirstRun}
 use Rattle.recording.specs.declared.Run.{Run}
 
 run : ℕ → ℕ → Run
@@ -96,7 +96,7 @@ module _ {P : ℕ → Type 0} {from to : ℕ} where
       late x m h = elim (ℕ-discrete (x .start) at) [ yes e ↦ absurd (n (subst P e (m .holds (x .start) (omega arith) (m .some)))) | no d ↦ omega arith ]
 
   -- the first run from `at` on is the next maximal run
-  pub scanned-more : {at : ℕ} {xs : List Run} {x : Run} → Scanned P from to at xs → First P at to (x .start) (x .end) → Scanned P from to (x .end) (xs ++ (x ∷ []))
+  pub scanned-more : {at : ℕ} {xs : List Run} {x : Run} → Scanned P from to at xs → FirstRun P at to (x .start) (x .end) → Scanned P from to (x .end) (xs ++ (x ∷ []))
   scanned-more {at} {xs} {x} s f = record {
     each = λ y m. ⊎-elim (s .each y) (λ q. let e : y ≡ x = List·Memᴰ·eq-of-singleton q in rw e whole) (List·Memᴰ·append-cases xs m);
     before = λ y m. ⊎-elim (λ q. let h = s .before y q in omega (arith, f .ahead, f .some)) (λ q. let e : y ≡ x = List·Memᴰ·eq-of-singleton q in rw e (omega arith)) (List·Memᴰ·append-cases xs m);

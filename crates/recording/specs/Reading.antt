@@ -5,7 +5,7 @@ use mathlib.Core.List.{List, [], _∷_}
 use Prim.Native.Nat.{ℕ, zero, suc, _+_, _-_, _*_, _/_, _%_, _^_, _≤_, _<_}
 use lib.Dec.{leb, ltb, eqb}
 use lib.ListN.{length, getD}
-use Rattle.recording.specs.declared.Recording.{Recording}
+use Rattle.recording.specs.declared.Dimensions.{Dimensions}
 use Rattle.recording.specs.declared.Reading.{Reading}
 use Rattle.recording.specs.declared.Reading.the-variants.{WrongLength, WrongHead, WrongChange, Recorded}
 
@@ -103,7 +103,7 @@ unfoldable pub allChanged : List ℕ → ℕ → Bool
 allChanged bytes zero = true
 allChanged bytes (suc n) = allChanged bytes n && changed bytes (suc n)
 
-abbrev pub numbers : List ℕ → Recording
+abbrev pub numbers : List ℕ → Dimensions
 numbers bytes = record { ticks = ticks bytes; channels = channels bytes; changes = changes bytes }
 
 -- what reading answers: each cause over the whole input before the next, else the recording's numbers
@@ -123,6 +123,6 @@ number WrongChange = 3
 number (Recorded r) = 0
 
 -- these bytes were read as the recording r
-pub record ReadAs (bytes : List ℕ) (r : Recording) : Type 0 where
+pub record ReadAs (bytes : List ℕ) (r : Dimensions) : Type 0 where
   pub largest : ℕ
   pub read : reading largest bytes ≡ Recorded r

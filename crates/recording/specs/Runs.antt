@@ -25,7 +25,7 @@ pub record Runs (P : ℕ → Type 0) (from to : ℕ) (xs : List Run) : Type 0 wh
   pub rising : Rising xs
 
 -- s to e are the first ticks from tick `at` on, and before `to`, at which P holds
-pub record First (P : ℕ → Type 0) (at to s e : ℕ) : Type 0 where
+pub record FirstRun (P : ℕ → Type 0) (at to s e : ℕ) : Type 0 where
   pub ahead : at ≤ s
   pub some : s < e
   pub upper : e ≤ to

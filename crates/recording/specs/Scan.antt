@@ -6,7 +6,7 @@ use Prim.Native.Nat.{ℕ, _+_, _≤_, _<_, max, min}
 use lib.Dec.{leb, eqb}
 use Rattle.recording.specs.Reading.{tick, ticks, changes, time, levels}
 use Rattle.recording.specs.Levels.{levelIn, Shows}
-use Rattle.recording.specs.Runs.{First}
+use Rattle.recording.specs.Runs.{FirstRun}
 use Rattle.recording.specs.declared.Cursor.{Cursor}
 use Rattle.recording.specs.declared.Level.{Level}
 use Rattle.recording.specs.declared.Level.the-variants.{High, Low}
@@ -34,7 +34,7 @@ position bytes from to cursor = max from (min to (begins bytes (cursor .change))
 -- what a cursor finds next: the first run from its position on, with the cursor that stands at the run's end, or no tick more
 abbrev pub NextRun : List ℕ → ℕ → Level → ℕ → ℕ → Cursor → Next → Type 0
 NextRun bytes channel level from to cursor (Found run onward) =
-    First (Shows bytes channel level) (position bytes from to cursor) to (run .start) (run .end)
+    FirstRun (Shows bytes channel level) (position bytes from to cursor) to (run .start) (run .end)
     × (position bytes from to onward ≡ run .end)
 NextRun bytes channel level from to cursor None =
     (k : ℕ) → position bytes from to cursor ≤ k → k < to → Shows bytes channel level k → ⊥

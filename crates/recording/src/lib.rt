@@ -17,7 +17,7 @@ pub enum Level {
 }
 
 // The numbers of a recording: its length in ticks, its channels, and its changes, which are the records 1 to `changes`.
-pub struct Recording {
+pub struct Dimensions {
     pub ticks: u32,
     pub channels: u8,
     pub changes: usize,
@@ -28,7 +28,7 @@ pub enum Reading {
     WrongLength,
     WrongHead,
     WrongChange,
-    Recorded(Recording),
+    Recorded(Dimensions),
 }
 
 // A run of ticks, from `start` to before `end`.
@@ -190,7 +190,7 @@ pub fn read(bytes: &[u8], largest: usize) -> Reading
     if !all_changed(bytes, changes, duration, 1 << channels) {
         return Reading::WrongChange;
     }
-    Reading::Recorded(Recording {
+    Reading::Recorded(Dimensions {
         ticks: tick(duration),
         channels,
         changes,
@@ -198,15 +198,15 @@ pub fn read(bytes: &[u8], largest: usize) -> Reading
 }
 
 // The tick from which change j holds: 0 for j = 0, and the end of the recording after the last change.
-fn begins(bytes: &[u8], recording: Recording, j: usize) -> u32
-    requires { ⌜ ReadAs (now bytes) recording ⌝ }
+fn begins(bytes: &[u8], size: Dimensions, j: usize) -> u32
+    requires { ⌜ ReadAs (now bytes) size ⌝ }
     ensures { λ r. ⌜ r ≡ beginsAt (now (bytes .entry)) j ⌝ }
 {
     if j == 0 {
         return 0;
     }
-    if recording.changes < j {
-        return recording.ticks;
+    if size.changes < j {
+        return size.ticks;
     }
     tick(le32(bytes, 8 * j + 2))
 }
@@ -265,21 +265,21 @@ fn later(a: u32, b: u32) -> u32
 }
 
 // Change i leaves its levels for some tick of from..to, or `to` comes before it.
-fn reaches(bytes: &[u8], recording: Recording, from: u32, to: u32, i: usize) -> bool
-    requires { ⌜ ReadAs (now bytes) recording × (i ≤ recording .changes) ⌝ }
+fn reaches(bytes: &[u8], size: Dimensions, from: u32, to: u32, i: usize) -> bool
+    requires { ⌜ ReadAs (now bytes) size × (i ≤ size .changes) ⌝ }
     ensures { λ r. ⌜ r ≡ (leb to (beginsAt (now (bytes .entry)) i) || ltb (max from (beginsAt (now (bytes .entry)) i)) (min to (beginsAt (now (bytes .entry)) (i + 1)))) ⌝ }
 {
-    let a = begins(bytes, recording, i);
+    let a = begins(bytes, size, i);
     if to <= a {
         return true;
     }
-    later(from, a) < earlier(to, begins(bytes, recording, i + 1))
+    later(from, a) < earlier(to, begins(bytes, size, i + 1))
 }
 
 // The first change from j on that gives ticks of from..to the level, or another one where it is not wanted.
 fn seek(
     bytes: &[u8],
-    recording: Recording,
+    size: Dimensions,
     channel: u8,
     level: Level,
     from: u32,
@@ -287,14 +287,14 @@ fn seek(
     j: usize,
     wanted: bool,
 ) -> usize
-    requires { ⌜ ReadAs (now bytes) recording × (to ≤ ticksOf (now bytes)) ⌝ }
+    requires { ⌜ ReadAs (now bytes) size × (to ≤ ticksOf (now bytes)) ⌝ }
     ensures { λ r. ⌜ Sought (now (bytes .entry)) channel level from to j wanted r ⌝ }
 {
     let mut i = j;
-    while i <= recording.changes {
+    while i <= size.changes {
         // Most changes are of other channels, and a tick takes a division.
         if leaves(bytes, channel, level, i) == wanted {
-            if reaches(bytes, recording, from, to, i) {
+            if reaches(bytes, size, from, to, i) {
                 return i;
             }
         }
@@ -306,42 +306,24 @@ fn seek(
 // The next maximal run of a channel at a level within the ticks from..to, from a cursor on. A cursor at change 0 starts at `from`.
 pub fn next_run(
     bytes: &[u8],
-    recording: Recording,
+    size: Dimensions,
     channel: u8,
     level: Level,
     from: u32,
     to: u32,
     cursor: Cursor,
 ) -> Next
-    requires { ⌜ ReadAs (now bytes) recording ⌝ }
+    requires { ⌜ ReadAs (now bytes) size ⌝ }
     ensures { λ r. ⌜ NextRun (now (bytes .entry)) channel level from to cursor r ⌝ }
 {
-    let end = earlier(to, recording.ticks);
-    let first = seek(
-        bytes,
-        recording,
-        channel,
-        level,
-        from,
-        end,
-        cursor.change,
-        true,
-    );
-    let a = begins(bytes, recording, first);
+    let end = earlier(to, size.ticks);
+    let first = seek(bytes, size, channel, level, from, end, cursor.change, true);
+    let a = begins(bytes, size, first);
     if end <= a {
         return Next::None;
     }
-    let past = seek(
-        bytes,
-        recording,
-        channel,
-        level,
-        from,
-        end,
-        first + 1,
-        false,
-    );
-    let b = begins(bytes, recording, past);
+    let past = seek(bytes, size, channel, level, from, end, first + 1, false);
+    let b = begins(bytes, size, past);
     Next::Found(
         Run {
             start: later(from, a),

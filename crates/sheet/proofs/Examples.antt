@@ -3,7 +3,7 @@ use mathlib.Core.Path.{_≡_, refl}
 use mathlib.Core.List.{[], _∷_, _++_}
 use Prim.Native.Nat.{ℕ}
 use lib.IntN.{ℤ, pos, negℤ}
-use Rattle.finder.specs.declared.Outcome.the-variants.{DrillForm, ListFull, Finished}
+use Rattle.finder.specs.declared.Outcome.the-variants.{DrillForm, Overflow, Finished}
 use Rattle.finder.specs.Text.{ascii}
 use Rattle.finder.specs.Outcome.{returned}
 use Rattle.words.specs.Words.{zoneAt}
@@ -35,7 +35,7 @@ pub no-zones : sheet (returned (Finished 0 0)) [] ≡ ascii "zones 0 rounds 0\n"
 unfolding sheet finished lines decimal counted next
 no-zones = refl
 
-pub refusals : (sheet (returned DrillForm) [] ≡ ascii "refused 5\n") × (sheet (returned ListFull) [] ≡ ascii "refused 10\n")
+pub refusals : (sheet (returned DrillForm) [] ≡ ascii "refused 5\n") × (sheet (returned Overflow) [] ≡ ascii "refused 10\n")
 unfolding sheet refused decimal counted next
 refusals = (refl, refl)
 

@@ -20,7 +20,7 @@ use Rattle.finder.specs.declared.Outcome.the-variants.{
   DrillRange,
   DrillDepth,
   WorkShort,
-  ListFull,
+  Overflow,
   AnswerShort,
   Finished,
 }
@@ -41,7 +41,7 @@ refusal-sheet DrillLetter n front = (refl, refl, omega arith)
 refusal-sheet DrillRange n front = (refl, refl, omega arith)
 refusal-sheet DrillDepth n front = (refl, refl, omega arith)
 refusal-sheet WorkShort n front = (refl, refl, omega arith)
-refusal-sheet ListFull n front = (refl, refl, omega arith)
+refusal-sheet Overflow n front = (refl, refl, omega arith)
 refusal-sheet AnswerShort n front = (refl, refl, omega arith)
 refusal-sheet (Finished zones rounds) n front = absurd (omega arith)
 

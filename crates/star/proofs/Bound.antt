@@ -14,9 +14,9 @@ use Rattle.zone.specs.declared.MaybeZone.the-variants.{Zone as zone}
 use Rattle.zone.specs.Zone.{contains, compose, Tight}
 use Rattle.zone.proofs.Lengths.{Extends, span}
 use Rattle.zone.proofs.Laws.{compose-mono, extends-refl, extends-step, span-longer, span-some, span-adds, span-bound, same-zone?}
-use Rattle.list.specs.Insert.{Built, listed, overfull, insert-each}
+use Rattle.list.specs.Insert.{Built, listed, overflow, insert-each}
 use Rattle.operators.specs.declared.Operation.the-variants.{Compose}
-use Rattle.star.specs.Star.{round, Outcome, finished, burst, one-more, Rounds, Rounds.last, Rounds.more, Rounds.over, Star, Star.closed, Star.no-room, Star.over-round}
+use Rattle.star.specs.Star.{round, Closure, finished, overflow, one-more, Rounds, Rounds.last, Rounds.more, Rounds.over, Star, Star.closed, Star.no-room, Star.over-round}
 use Rattle.list.specs.Members.{AllProper, Covered}
 use Rattle.list.proofs.Coverage.{covered-within, puts-fresh}
 use Rattle.operators.proofs.Pairs.{pairs-mem}
@@ -163,29 +163,29 @@ module _ {from to : ℕ} {inner : List Zone} (proper : AllProper from to inner) 
 
     -- ---- so the rounds end
 
-    exists : (left : ℕ) {k : ℕ} {L : List Zone} → After inner k L → length inner + (to - from) ≤ k + left → (o : Outcome) × Rounds inner L o
+    exists : (left : ℕ) {k : ℕ} {L : List Zone} → After inner k L → length inner + (to - from) ≤ k + left → (o : Closure) × Rounds inner L o
     exists zero a h = absurd (let b = after-bound a in omega arith)
     exists (suc left) {L = L} a h = go (round inner L) refl (λ M e n. exists left (turn a e n) (omega arith))
       where
-        go : (b : Built) → round inner L ≡ b → ((M : List Zone) → round inner L ≡ listed M → ¬ (M ≡ L) → (o : Outcome) × Rounds inner M o) → (o : Outcome) × Rounds inner L o
-        go overfull e below = (burst, over e)
+        go : (b : Built) → round inner L ≡ b → ((M : List Zone) → round inner L ≡ listed M → ¬ (M ≡ L) → (o : Closure) × Rounds inner M o) → (o : Closure) × Rounds inner L o
+        go overflow e below = (overflow, over e)
         go (listed M) e below = cases (List-discrete same-zone? M L)
           where
-            cases : Dec (M ≡ L) → (o : Outcome) × Rounds inner L o
+            cases : Dec (M ≡ L) → (o : Closure) × Rounds inner L o
             cases (yes q) = (finished 1 L, last (e ∙ ap listed q))
             cases (no n) = let t = below M e n in (one-more (t .0), more e n (t .1))
 
     -- n + (to − from) rounds are enough
-    pub rounds-exist : (o : Outcome) × Rounds inner inner o
+    pub rounds-exist : (o : Closure) × Rounds inner inner o
     rounds-exist = exists (length inner + (to - from)) begin (omega arith)
 
-    pub star-exists : (diagonal : Zone) → (o : Outcome) × Star inner diagonal o
+    pub star-exists : (diagonal : Zone) → (o : Closure) × Star inner diagonal o
     star-exists diagonal = go (rounds-exist .0) (rounds-exist .1)
       where
-        put : {r : ℕ} {F : List Zone} → Rounds inner inner (finished r F) → (b : Built) → insert-each (zone diagonal ∷ []) F ≡ b → (o : Outcome) × Star inner diagonal o
+        put : {r : ℕ} {F : List Zone} → Rounds inner inner (finished r F) → (b : Built) → insert-each (zone diagonal ∷ []) F ≡ b → (o : Closure) × Star inner diagonal o
         put {r} t (listed G) e = (finished r G, closed t e)
-        put t overfull e = (burst, no-room t e)
+        put t overflow e = (overflow, no-room t e)
 
-        go : (o : Outcome) → Rounds inner inner o → (o : Outcome) × Star inner diagonal o
+        go : (o : Closure) → Rounds inner inner o → (o : Closure) × Star inner diagonal o
         go (finished r F) t = put t (insert-each (zone diagonal ∷ []) F) refl
-        go burst t = (burst, over-round t)
+        go overflow t = (overflow, over-round t)

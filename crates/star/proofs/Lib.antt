@@ -3,5 +3,5 @@ pub mod Composed
 pub mod Bound
 pub mod Members
 pub mod Theorems
-pub mod Answers
+pub mod Closings
 pub mod Turning

@@ -7,10 +7,10 @@ use lib.ListN.{length}
 use Rattle.zone.specs.declared.Zone.{Zone}
 use Rattle.zone.specs.declared.MaybeZone.the-variants.{Zone as zone}
 use Rattle.zone.proofs.Laws.{proper-compose}
-use Rattle.list.specs.Insert.{most, listed, overfull, insert-each}
+use Rattle.list.specs.Insert.{capacity, listed, overflow, insert-each}
 use Rattle.operators.specs.Operators.{pairs}
 use Rattle.operators.specs.declared.Operation.the-variants.{Compose}
-use Rattle.star.specs.Star.{round, Outcome, finished, burst, one-more, Rounds, Rounds.last, Rounds.more, Rounds.over, Star, Star.closed, Star.no-room, Star.over-round}
+use Rattle.star.specs.Star.{round, Closure, finished, overflow, one-more, Rounds, Rounds.last, Rounds.more, Rounds.over, Star, Star.closed, Star.no-room, Star.over-round}
 use Rattle.list.specs.Members.{AllProper}
 use Rattle.list.specs.Antichain.{Antichain}
 use Rattle.list.proofs.Coverage.{Puts, puts, puts-proper, puts-antichain, puts-length, clash}
@@ -38,14 +38,14 @@ after-antichain h begin = h
 after-antichain {inner} h (turn {L = L} a e _) = puts-antichain (round-puts inner L e) (after-antichain h a)
 
 -- .. and there are no more than 128
-pub after-length : {inner : List Zone} → length inner ≤ most → {k : ℕ} {L : List Zone} → After inner k L → length L ≤ most
+pub after-length : {inner : List Zone} → length inner ≤ capacity → {k : ℕ} {L : List Zone} → After inner k L → length L ≤ capacity
 after-length h begin = h
 after-length {inner} h (turn {L = L} a e _) = puts-length (round-puts inner L e) (after-length h a)
 
 -- ---- the rounds so far and the rest are the whole
 
 -- an outcome with k rounds before it
-abbrev before : ℕ → Outcome → Outcome
+abbrev before : ℕ → Closure → Closure
 before zero o = o
 before (suc k) o = before k (one-more o)
 
@@ -53,11 +53,11 @@ before-finished : (k r : ℕ) (F : List Zone) → before k (finished r F) ≡ fi
 before-finished zero r F = ap (λ (n : ℕ). finished n F) (omega arith)
 before-finished (suc k) r F = before-finished k (suc r) F ∙ ap (λ (n : ℕ). finished n F) (omega arith)
 
-before-burst : (k : ℕ) → before k burst ≡ burst
+before-burst : (k : ℕ) → before k overflow ≡ overflow
 before-burst zero = refl
 before-burst (suc k) = before-burst k
 
-whole : {inner : List Zone} {k : ℕ} {L : List Zone} {o : Outcome} → After inner k L → Rounds inner L o → Rounds inner inner (before k o)
+whole : {inner : List Zone} {k : ℕ} {L : List Zone} {o : Closure} → After inner k L → Rounds inner L o → Rounds inner inner (before k o)
 whole begin t = t
 whole (turn a e n) t = whole a (more e n t)
 
@@ -66,23 +66,23 @@ pub after-last : {inner : List Zone} {k : ℕ} {L : List Zone} → After inner k
 after-last {inner} {k} {L} a e = subst (Rounds inner inner) (before-finished k 1 L ∙ ap (λ (n : ℕ). finished n L) (omega arith)) (whole a (last e))
 
 -- a put that would leave 129 zones ends the rounds
-pub after-over : {inner : List Zone} {k : ℕ} {L : List Zone} → After inner k L → round inner L ≡ overfull → Rounds inner inner burst
+pub after-over : {inner : List Zone} {k : ℕ} {L : List Zone} → After inner k L → round inner L ≡ overflow → Rounds inner inner overflow
 after-over {inner} {k} a e = subst (Rounds inner inner) (before-burst k) (whole a (over e))
 
 -- ---- where the rounds end
 
 -- the last list is the one after n rounds, all but the last, and the last round changes nothing
-abbrev Ends : List Zone → ℕ → Outcome → Type 0
+abbrev Ends : List Zone → ℕ → Closure → Type 0
 Ends inner k (finished r F) = (n : ℕ) × After inner n F × (suc n ≡ k + r) × (round inner F ≡ listed F)
-Ends inner k burst = Unit {0}
+Ends inner k overflow = Unit {0}
 
-ends : {inner : List Zone} {k : ℕ} {L : List Zone} {o : Outcome} → After inner k L → Rounds inner L o → Ends inner k o
+ends : {inner : List Zone} {k : ℕ} {L : List Zone} {o : Closure} → After inner k L → Rounds inner L o → Ends inner k o
 ends {k = k} a (last e) = (k, a, omega arith, e)
 ends {inner} {k} a (more {o = o} e n t) = go o (ends (turn a e n) t)
   where
-    go : (o : Outcome) → Ends inner (suc k) o → Ends inner k (one-more o)
+    go : (o : Closure) → Ends inner (suc k) o → Ends inner k (one-more o)
     go (finished r F) h = (h .0, h .1, let q = h .2 in omega arith, h .3)
-    go burst h = tt
+    go overflow h = tt
 ends a (over e) = tt
 
 -- r rounds that finish: all but the last changed something, and the last one nothing
@@ -96,7 +96,7 @@ star-rounds (closed {F = F} t e) = (F, t, e)
 -- ---- no more than one outcome
 
 -- list and inner list decide how the rounds come out ..
-pub rounds-unique : {inner L : List Zone} {o p : Outcome} → Rounds inner L o → Rounds inner L p → o ≡ p
+pub rounds-unique : {inner L : List Zone} {o p : Closure} → Rounds inner L o → Rounds inner L p → o ≡ p
 rounds-unique (last e) (last f) = refl
 rounds-unique (last e) (more f n t) = absurd (n (cc))
 rounds-unique (last e) (over f) = clash (cc)
@@ -108,7 +108,7 @@ rounds-unique (over e) (more f n t) = clash (cc)
 rounds-unique (over e) (over f) = refl
 
 -- .. and so, with the diagonal, the star
-pub star-unique : {inner : List Zone} {diagonal : Zone} {o p : Outcome} → Star inner diagonal o → Star inner diagonal p → o ≡ p
+pub star-unique : {inner : List Zone} {diagonal : Zone} {o p : Closure} → Star inner diagonal o → Star inner diagonal p → o ≡ p
 star-unique (closed t e) (closed u f) = let q = rounds-unique t u in cc
 star-unique (closed t e) (no-room u f) = let q = rounds-unique t u in clash (cc)
 star-unique (closed t e) (over-round u) = let q = rounds-unique t u in clash (cc)

@@ -10,7 +10,7 @@ use Rattle.zone.specs.declared.Zone.{Zone}
 use Rattle.zone.specs.declared.MaybeZone.the-variants.{Zone as zone}
 use Rattle.zone.specs.Zone.{diagonal}
 use Rattle.zone.proofs.Laws.{proper-diagonal, diagonal-members}
-use Rattle.star.specs.Star.{Outcome, finished, Rounds, Star}
+use Rattle.star.specs.Star.{Closure, finished, Rounds, Star}
 use Rattle.star.specs.Pieces.{Pieces}
 use Rattle.list.specs.Members.{Lies, AllProper}
 use Rattle.star.proofs.Rounds as rounds
@@ -40,12 +40,12 @@ module _ {from to : ℕ} {inner : List Zone} {r : ℕ} {G : List Zone} (s : Star
 -- ==== 3. The rounds of a star
 
 -- a star has no more than one outcome
-pub star-unique : {inner : List Zone} {diagonal : Zone} {o p : Outcome} → Star inner diagonal o → Star inner diagonal p → o ≡ p
+pub star-unique : {inner : List Zone} {diagonal : Zone} {o p : Closure} → Star inner diagonal o → Star inner diagonal p → o ≡ p
 star-unique = rounds.star-unique
 
 module _ {from to : ℕ} {inner : List Zone} (proper : AllProper from to inner) (some : from < to) where
   -- and it has one: the rounds end
-  pub star-exists : (diagonal : Zone) → (o : Outcome) × Star inner diagonal o
+  pub star-exists : (diagonal : Zone) → (o : Closure) × Star inner diagonal o
   star-exists = bound.star-exists proper some
 
   -- their number, the last included, is at most n + (to − from), n the number of inner zones

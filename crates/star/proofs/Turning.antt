@@ -9,8 +9,8 @@ use lib.IntN.{ℤ}
 use lib.ListN.{length}
 use Rattle.zone.specs.declared.Zone.{Zone}
 use Rattle.words.specs.Words.{word}
-use Rattle.list.specs.Insert.{listed, overfull}
-use Rattle.star.specs.Star.{finished, burst, Rounds, round}
+use Rattle.list.specs.Insert.{listed, overflow}
+use Rattle.star.specs.Star.{finished, overflow, Rounds, round}
 use Rattle.list.specs.Slots.{listAt, Source, Holds, Kept, KeptBoth, Disjoint, Sound}
 use Rattle.star.specs.Steps.{Changes, Ending}
 use Rattle.star.proofs.Rounds.{After, After.begin as begin, After.turn as turn, after-proper, after-last, after-over}
@@ -111,5 +111,5 @@ module _ {inner m first second : ℕ} {ws₀ : List ℤ} (source : Source ws₀ 
           place = at-list (λ l c. (l ≡ first) ⊎ (l ≡ second)) (t .place) (inl refl) (inr refl);
         }
 
-    pub turn-over : round (listAt ws inner m) (listAt ws list n) ≡ overfull → Rounds (listAt ws₀ inner m) (listAt ws₀ inner m) burst
-    turn-over e = after-over (t .after) (at-home (λ I. round I (listAt ws list n) ≡ overfull) e)
+    pub turn-over : round (listAt ws inner m) (listAt ws list n) ≡ overflow → Rounds (listAt ws₀ inner m) (listAt ws₀ inner m) overflow
+    turn-over e = after-over (t .after) (at-home (λ I. round I (listAt ws list n) ≡ overflow) e)

@@ -1,4 +1,4 @@
 pub mod Pieces
 pub mod Star
-pub mod Answers
+pub mod Closing
 pub mod Steps

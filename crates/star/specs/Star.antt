@@ -4,7 +4,8 @@ use mathlib.Core.List.{List, [], _∷_}
 use Prim.Native.Nat.{ℕ, suc}
 use Rattle.zone.specs.declared.Zone.{Zone}
 use Rattle.zone.specs.declared.MaybeZone.the-variants.{Zone as zone}
-use Rattle.list.specs.Insert.{Built, listed, overfull, insert-each}
+use Rattle.list.specs.Insert as puts
+use Rattle.list.specs.Insert.{Built, listed, insert-each}
 use Rattle.operators.specs.Operators.{pairs}
 use Rattle.operators.specs.declared.Operation.the-variants.{Compose}
 
@@ -13,22 +14,22 @@ unfoldable pub round : List Zone → List Zone → Built
 round inner L = insert-each (pairs Compose L inner) L
 
 -- what rounds come to: the last list with the number of rounds, or a put that would leave 129 zones
-pub data Outcome : Type 0 where
-  finished : ℕ → List Zone → Outcome
-  burst : Outcome
+pub data Closure : Type 0 where
+  finished : ℕ → List Zone → Closure
+  overflow : Closure
 
-abbrev pub one-more : Outcome → Outcome
+abbrev pub one-more : Closure → Closure
 one-more (finished r F) = finished (suc r) F
-one-more burst = burst
+one-more overflow = overflow
 
 -- the rounds from a list on: "A round that changes nothing is the last, and is counted"
-pub data Rounds (inner : List Zone) : List Zone → Outcome → Type 0 where
+pub data Rounds (inner : List Zone) : List Zone → Closure → Type 0 where
   last : {L : List Zone} → round inner L ≡ listed L → Rounds inner L (finished 1 L)
-  more : {L M : List Zone} {o : Outcome} → round inner L ≡ listed M → ¬ (M ≡ L) → Rounds inner M o → Rounds inner L (one-more o)
-  over : {L : List Zone} → round inner L ≡ overfull → Rounds inner L burst
+  more : {L M : List Zone} {o : Closure} → round inner L ≡ listed M → ¬ (M ≡ L) → Rounds inner M o → Rounds inner L (one-more o)
+  over : {L : List Zone} → round inner L ≡ puts.overflow → Rounds inner L overflow
 
 -- the star: "begin with the inner list", the rounds, "Then the diagonal is put", which can be the 129th too
-pub data Star (inner : List Zone) (diagonal : Zone) : Outcome → Type 0 where
+pub data Star (inner : List Zone) (diagonal : Zone) : Closure → Type 0 where
   closed : {r : ℕ} {F G : List Zone} → Rounds inner inner (finished r F) → insert-each (zone diagonal ∷ []) F ≡ listed G → Star inner diagonal (finished r G)
-  no-room : {r : ℕ} {F : List Zone} → Rounds inner inner (finished r F) → insert-each (zone diagonal ∷ []) F ≡ overfull → Star inner diagonal burst
-  over-round : Rounds inner inner burst → Star inner diagonal burst
+  no-room : {r : ℕ} {F : List Zone} → Rounds inner inner (finished r F) → insert-each (zone diagonal ∷ []) F ≡ puts.overflow → Star inner diagonal overflow
+  over-round : Rounds inner inner overflow → Star inner diagonal overflow

@@ -5,13 +5,13 @@ use mathlib.Core.List.{List}
 use Prim.Native.Nat.{ℕ}
 use lib.IntN.{ℤ}
 use Rattle.zone.specs.declared.Zone.{Zone}
-use Rattle.list.specs.Insert.{listed, overfull}
-use Rattle.star.specs.Star.{finished, burst, Rounds, round}
+use Rattle.list.specs.Insert.{listed, overflow}
+use Rattle.star.specs.Star.{finished, overflow, Rounds, round}
 use Rattle.list.specs.Slots.{Holds}
 use Rattle.star.specs.declared.Round.{Round}
-use Rattle.star.specs.declared.Round.the-variants.{Same, Changed, Exceeded}
+use Rattle.star.specs.declared.Round.the-variants.{Same, Changed, Overflow}
 use Rattle.star.specs.declared.Ended.{Ended}
-use Rattle.star.specs.declared.Ended.the-variants.{EndedAt, EndedOver}
+use Rattle.star.specs.declared.Ended.the-variants.{EndedAt, Overflow}
 
 -- one round from the list L, into the slot at `copy`
 pub record Changes (inner L : List Zone) (vs : List ℤ) (copy n : ℕ) : Type 0 where
@@ -23,7 +23,7 @@ pub record Changes (inner L : List Zone) (vs : List ℤ) (copy n : ℕ) : Type 0
 abbrev pub RoundAs : List Zone → List Zone → List ℤ → ℕ → Round → Type 0
 RoundAs inner L vs copy Same = round inner L ≡ listed L
 RoundAs inner L vs copy (Changed n) = Changes inner L vs copy n
-RoundAs inner L vs copy Exceeded = round inner L ≡ overfull
+RoundAs inner L vs copy Overflow = round inner L ≡ overflow
 
 -- all rounds: the last list stands at `at`, one of the two slots
 pub record Ending (inner : List Zone) (a b : ℕ) (vs : List ℤ) (at n rounds : ℕ) : Type 0 where
@@ -34,4 +34,4 @@ pub record Ending (inner : List Zone) (a b : ℕ) (vs : List ℤ) (at n rounds :
 
 abbrev pub EndsAs : List Zone → ℕ → ℕ → List ℤ → Ended → Type 0
 EndsAs inner a b vs (EndedAt at n rounds) = Ending inner a b vs at n rounds
-EndsAs inner a b vs EndedOver = Rounds inner inner burst
+EndsAs inner a b vs Overflow = Rounds inner inner overflow

@@ -9,20 +9,20 @@ ghost use Prim.Native.Nat.{_+_, _≤_};
 ghost use lib.ListN.{length};
 ghost use Rattle.zone.specs.Zone.{diagonal};
 ghost use Rattle.list.specs.Slots.{listAt, Source, Kept, KeptBoth, Disjoint};
-ghost use Rattle.star.specs.Answers.{StarAs};
+ghost use Rattle.star.specs.Closing.{StarAs};
 ghost use Rattle.star.specs.Steps.{RoundAs, EndsAs};
 
 // What a star comes to: a list with its count and the rounds made, or one that would have 129 zones.
 pub enum Starred {
     Finished { count: usize, rounds: u64 },
-    Burst,
+    Overflow,
 }
 
 // A round: it changed nothing, or the new list has so many zones.
 enum Round {
     Same,
     Changed(usize),
-    Exceeded,
+    Overflow,
 }
 
 // All rounds of a star: where the last list stands, its count and the rounds made.
@@ -32,7 +32,7 @@ enum Ended {
         count: usize,
         rounds: u64,
     },
-    EndedOver,
+    Overflow,
 }
 
 // One round: the list copied to `copy`, and there each listed zone's composition with each inner zone.
@@ -52,7 +52,7 @@ fn one_round(words: &mut [i32], list: usize, n: usize, inner: usize, m: usize, c
         copy,
         n,
     ) else {
-        return Round::Exceeded;
+        return Round::Overflow;
     };
     if changed {
         Round::Changed(count)
@@ -88,8 +88,8 @@ fn all_rounds(words: &mut [i32], inner: usize, m: usize, first: usize, second: u
                 list = copy;
                 copy = before;
             }
-            Round::Exceeded => {
-                return Ended::EndedOver;
+            Round::Overflow => {
+                return Ended::Overflow;
             }
         }
     }
@@ -116,13 +116,13 @@ pub fn star(
         rounds: made,
     } = all_rounds(words, inner, m, target, scratch)
     else {
-        return Starred::Burst;
+        return Starred::Overflow;
     };
     list::bring(words, at, n, target);
     let mut w = [0i32; 6];
     words::write_zone(&mut w, 0, Zone::diagonal(from, to));
     let Grown::Grew { count, changed: _ } = operators::grow(words, target, n, false, &w) else {
-        return Starred::Burst; // the diagonal would be the 129th
+        return Starred::Overflow; // the diagonal would be the 129th
     };
     Starred::Finished {
         count,

@@ -6,6 +6,10 @@ use lib.ListN.{length, getD, take, drop}
 use Rattle.zone.specs.Limit.{code, decode}
 use Rattle.zone.specs.declared.Zone.{Zone}
 
+-- "6 words a zone"
+abbrev pub zone-words : ℕ
+zone-words = 6
+
 -- word k of a buffer
 abbrev pub word : List ℤ → ℕ → ℤ
 word ws k = getD ws k (pos 0)

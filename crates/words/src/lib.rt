@@ -13,6 +13,9 @@ ghost use Rattle.zone.specs.Limit.{at-most, decode};
 ghost use Rattle.zone.specs.Zone.{contains, nesting, Ranged, Contains};
 ghost use Rattle.words.specs.Words.{word, codes, zoneAt, overwrite};
 
+// The words of a zone.
+pub const ZONE_WORDS: usize = 6;
+
 fn limit_at(words: &[i32], at: usize) -> Limit
     requires { ⌜ at < length (now words) ⌝ }
     ensures { λ r. ⌜ r ≡ decode (word (now (words .entry)) at) ⌝ }

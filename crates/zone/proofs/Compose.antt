@@ -8,7 +8,7 @@ use native.Mathlib.Omega.{arith}
 use lib.Dec.{T}
 use Rattle.zone.specs.Time.{Time}
 use Rattle.zone.specs.Limit.{Limit, _≤ᴸ_, _⊕_, nought}
-use Rattle.zone.specs.Zone.{Zone, In, zone, InMaybe, where-room, joined, compose}
+use Rattle.zone.specs.Zone.{Zone, In, zone, InMaybe, where-room, across, compose}
 use Rattle.zone.proofs.Closed.{Closed}
 use Rattle.zone.proofs.Linear.{up, dn, un-le, le-lin, nought-up, nought-dn, nought-un}
 use Rattle.zone.proofs.Common.{KeepsOver, Is, Is-scale, over-scale, widen, through, self, round, InOver, in-over}
@@ -22,8 +22,8 @@ forwards D X {l} h =
     omega (arith, mul-le-mul-right D k)
 
 module _ {z w : Zone} (tz : Closed z) (tw : Closed w) where
-  cut : {D X Y : ℕ} → 0 < D → nought ≤ᴸ w .nstart ⊕ z .end → nought ≤ᴸ z .nend ⊕ w .start → InOver D (joined z w) X Y → (t : ℕ) × InOver (2 * D) z (2 * X) t × InOver (2 * D) w t (2 * Y)
-  unfolding joined
+  cut : {D X Y : ℕ} → 0 < D → nought ≤ᴸ w .nstart ⊕ z .end → nought ≤ᴸ z .nend ⊕ w .start → InOver D (across z w) X Y → (t : ℕ) × InOver (2 * D) z (2 * X) t × InOver (2 * D) w t (2 * Y)
+  unfolding across
   cut {D} {X} {Y} hD a b h =
       let r = helly D (record { at = X; lim = z .nlength }) (record { at = 0; lim = z .nend } ∷ record { at = 0; lim = w .nstart } ∷ record { at = Y; lim = w .length } ∷ [])
       (record { at = X; lim = z .length }) (record { at = 0; lim = z .end } ∷ record { at = 0; lim = w .start } ∷ record { at = Y; lim = w .nlength } ∷ [])
@@ -60,8 +60,8 @@ module _ {z w : Zone} (tz : Closed z) (tw : Closed w) where
         },
       )
 
-  glue : {D X T Y : ℕ} → InOver D z X T → InOver D w T Y → InOver D (joined z w) X Y
-  unfolding joined
+  glue : {D X T Y : ℕ} → InOver D z X T → InOver D w T Y → InOver D (across z w) X Y
+  unfolding across
   glue {D} {X} {T} {Y} h k =
       record {
         start = lesser-of (λ l. KeepsOver D l X 0) (h .start) (through (h .nlength) (k .start));
@@ -77,11 +77,11 @@ module _ {z w : Zone} (tz : Closed z) (tw : Closed w) where
 pub compose-is : {z w : Zone} → Closed z → Closed w → (x y : Time) → InMaybe (compose z w) x y ↔ ((t : Time) × In z x t × In w t y)
 unfolding compose
 compose-is {z} {w} tz tw x y = (
-  room-is (w .nstart) (z .end) (where-room (z .nend) (w .start) (zone (joined z w))) (λ r. InMaybe r x y → Cut)
-      (λ a. room-is (z .nend) (w .start) (zone (joined z w)) (λ r. InMaybe r x y → Cut) (λ b h. make a b h) (λ n h. absurd h))
+  room-is (w .nstart) (z .end) (where-room (z .nend) (w .start) (zone (across z w))) (λ r. InMaybe r x y → Cut)
+      (λ a. room-is (z .nend) (w .start) (zone (across z w)) (λ r. InMaybe r x y → Cut) (λ b h. make a b h) (λ n h. absurd h))
       (λ n h. absurd h),
-  λ c. room-is (w .nstart) (z .end) (where-room (z .nend) (w .start) (zone (joined z w))) (λ r. InMaybe r x y)
-      (λ a. room-is (z .nend) (w .start) (zone (joined z w)) (λ r. InMaybe r x y)
+  λ c. room-is (w .nstart) (z .end) (where-room (z .nend) (w .start) (zone (across z w))) (λ r. InMaybe r x y)
+      (λ a. room-is (z .nend) (w .start) (zone (across z w)) (λ r. InMaybe r x y)
       (λ b. in-over (hD c) (ix c) (iy c) .1 (glue tz tw (left c) (right c)))
       (λ n. absurd (n (round (hD c) (through (left c .nend) (right c .start))))))
       (λ n. absurd (n (round (hD c) (through (right c .nstart) (left c .end))))),
@@ -90,7 +90,7 @@ compose-is {z} {w} tz tw x y = (
     Cut : Type 0
     Cut = (t : Time) × In z x t × In w t y
 
-    make : nought ≤ᴸ w .nstart ⊕ z .end → nought ≤ᴸ z .nend ⊕ w .start → In (joined z w) x y → Cut
+    make : nought ≤ᴸ w .nstart ⊕ z .end → nought ≤ᴸ z .nend ⊕ w .start → In (across z w) x y → Cut
     make a b h =
         let D : ℕ = x .den * y .den in
         let h0 : 0 < x .den * y .den = mul-pos (x .some) (y .some) in

@@ -10,7 +10,7 @@ use lib.IntN.{ℤ, pos, _-ℤ_, _*ℤ_}
 use Rattle.signed.proofs.Integers.{arithZ, neg}
 use Rattle.zone.specs.Time.{Time, origin, tick, difference, scaled, _≤ᵀ_, _<ᵀ_, _≈ᵀ_}
 use Rattle.zone.specs.Limit.{Limit, AtMost, Below, Within, _≤ᴸ_, nought}
-use Rattle.zone.specs.Zone.{Zone, MaybeZone, zone, empty, In, InMaybe, Proper, Side, limit, upper, lower, Keeps, Loses, Tight, TightMaybe, tighten, meet, compose, contains, Nesting, nesting, inside, around, apart, joined, run, diagonal, everything, band, Ranged}
+use Rattle.zone.specs.Zone.{Zone, MaybeZone, zone, empty, In, InMaybe, Proper, Side, limit, upper, lower, Keeps, Loses, Tight, TightMaybe, tighten, meet, compose, contains, Nesting, nesting, inside, around, apart, across, run, diagonal, everything, band, Ranged}
 use Rattle.zone.proofs.Linear.{up, dn, sum-ud}
 use Rattle.zone.proofs.Order as order
 use Rattle.zone.proofs.Times as times
@@ -243,7 +243,7 @@ pub extends-refl : (z : Zone) → Extends z z
 extends-refl = lengths.extends-refl
 
 module _ {z w x : Zone} (h : Tight z) (k : Tight w) (e : compose z w ≡ zone x) where
-  new : ¬ T (contains z x) → ¬ (joined z w ⊑ z)
+  new : ¬ T (contains z x) → ¬ (across z w ⊑ z)
   new n i = n (contains-⊑ z x .1 (subst (λ (j : Zone). j ⊑ z) (composed z w e) i))
 
   pub extends-step : {u : Zone} → Extends x u → Extends z u
@@ -261,7 +261,7 @@ module _ {z w x : Zone} (h : Tight z) (k : Tight w) (e : compose z w ≡ zone x)
   span-adds {u} {v} f g n =
       subst (λ (j : Zone). span z + span w ≤ span j) (composed z w e)
       (lengths.span-adds z w u (tight-is .0 h) (tight-is .0 k) (subst (λ (j : Zone). Extends j u) (sym (composed z w e)) f)
-      (λ i. n (contains-⊑ x v .1 (subst (λ (j : Zone). v ⊑ j) (composed z w e) (subst (λ (j : Zone). j ⊑ joined z w) (composed u w g) i)))))
+      (λ i. n (contains-⊑ x v .1 (subst (λ (j : Zone). v ⊑ j) (composed z w e) (subst (λ (j : Zone). j ⊑ across z w) (composed u w g) i)))))
 
 -- the length of a zone inside ticks from..to is at most to − from
 pub span-bound : {from to : ℕ} {z : Zone} → Proper from to z → span z ≤ to - from

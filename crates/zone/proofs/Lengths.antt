@@ -5,7 +5,7 @@ use mathlib.Core.Bool.{Bool, true, false}
 use Prim.Native.Nat.{ℕ, zero, suc, _+_, _-_, _≤_, min}
 use native.Mathlib.Omega.{arith}
 use Rattle.zone.specs.Limit.{Limit, at-most, _≤ᴸ_, _⊕_, lesser, nought}
-use Rattle.zone.specs.Zone.{Zone, zone, empty, where-room, joined, compose}
+use Rattle.zone.specs.Zone.{Zone, zone, empty, where-room, across, compose}
 use Rattle.zone.proofs.Linear.{up, dn, un-le, le-lin, lin-le, sum-ud, sum-un, one-side, nought-up, nought-dn, nought-un}
 use Rattle.zone.proofs.Order.{≤-refl, ≤-trans, not≤, ⊕-mono, ⊕-comm, ⊕-assoc, lesser-l, lesser-r, lesser-of}
 use Rattle.zone.proofs.Closed.{Closed}
@@ -60,17 +60,17 @@ dec l m = go (at-most l m) refl
 
 -- ---- a composition that is not empty is what the two zones leave of start and end
 
-pub composed : (z w : Zone) {x : Zone} → compose z w ≡ zone x → joined z w ≡ x
+pub composed : (z w : Zone) {x : Zone} → compose z w ≡ zone x → across z w ≡ x
 unfolding compose
 composed z w {x} =
-    room-is (w .nstart) (z .end) (where-room (z .nend) (w .start) (zone (joined z w))) (λ r. r ≡ zone x → joined z w ≡ x)
-    (λ _. room-is (z .nend) (w .start) (zone (joined z w)) (λ r. r ≡ zone x → joined z w ≡ x) (λ _ e. cc) (λ _ e. absurd (let f : _≡_ {A = ℕ} 0 1 = cc in omega arith)))
+    room-is (w .nstart) (z .end) (where-room (z .nend) (w .start) (zone (across z w))) (λ r. r ≡ zone x → across z w ≡ x)
+    (λ _. room-is (z .nend) (w .start) (zone (across z w)) (λ r. r ≡ zone x → across z w ≡ x) (λ _ e. cc) (λ _ e. absurd (let f : _≡_ {A = ℕ} 0 1 = cc in omega arith)))
     (λ _ e. absurd (let f : _≡_ {A = ℕ} 0 1 = cc in omega arith))
 
 module _ (z w : Zone) (hw : Closed w) where
-  joined-extends : Extends z (joined z w)
-  unfolding joined
-  joined-extends =
+  across-extends : Extends z (across z w)
+  unfolding across
+  across-extends =
       record {
         start = lesser-l _ _;
         nstart = lesser-l _ _;
@@ -83,26 +83,26 @@ inside : {z x : Zone} → Extends z x → x .end ≤ᴸ z .end → x .length ≤
 inside f h k = record { start = f .start; nstart = f .nstart; end = h; nend = f .nend; length = k; nlength = f .nlength }
 
 -- a composition that does not lie inside its left zone is not shorter
-longer : (z w : Zone) → Closed z → Closed w → ¬ (joined z w ⊑ z) → z .length ≤ᴸ joined z w .length
-longer z w h k n = go (dec (z .length) (joined z w .length))
+longer : (z w : Zone) → Closed z → Closed w → ¬ (across z w ⊑ z) → z .length ≤ᴸ across z w .length
+longer z w h k n = go (dec (z .length) (across z w .length))
   where
     -- were it shorter, its end would be no later than z's
-    early : ¬ (z .length ≤ᴸ joined z w .length) → ¬ (w .end ≤ᴸ z .end) → ⊥
-    early l e = l (unfold joined in at-least-both (z .length) (grow (z .length) (w .length) (long k)) (≤-trans (h .length) (⊕-mono (not≤ e) (≤-refl (z .nstart)))))
+    early : ¬ (z .length ≤ᴸ across z w .length) → ¬ (w .end ≤ᴸ z .end) → ⊥
+    early l e = l (unfold across in at-least-both (z .length) (grow (z .length) (w .length) (long k)) (≤-trans (h .length) (⊕-mono (not≤ e) (≤-refl (z .nstart)))))
 
-    end-in : ¬ (z .length ≤ᴸ joined z w .length) → joined z w .end ≤ᴸ z .end
+    end-in : ¬ (z .length ≤ᴸ across z w .length) → across z w .end ≤ᴸ z .end
     end-in l = settle (dec (w .end) (z .end))
       where
-        settle : Dec (w .end ≤ᴸ z .end) → joined z w .end ≤ᴸ z .end
-        settle (yes e) = unfold joined in ≤-trans (lesser-l (w .end) (w .length ⊕ z .end)) e
+        settle : Dec (w .end ≤ᴸ z .end) → across z w .end ≤ᴸ z .end
+        settle (yes e) = unfold across in ≤-trans (lesser-l (w .end) (w .length ⊕ z .end)) e
         settle (no e) = absurd (early l e)
 
-    go : Dec (z .length ≤ᴸ joined z w .length) → z .length ≤ᴸ joined z w .length
+    go : Dec (z .length ≤ᴸ across z w .length) → z .length ≤ᴸ across z w .length
     go (yes l) = l
-    go (no l) = absurd (n (inside (joined-extends z w k) (end-in l) (not≤ l)))
+    go (no l) = absurd (n (inside (across-extends z w k) (end-in l) (not≤ l)))
 
 -- and its right zone holds a stretch of length 1 or more
-lengthens : (z w : Zone) → Closed w → ¬ (joined z w ⊑ z) → 1 ≤ up (w .length)
+lengthens : (z w : Zone) → Closed w → ¬ (across z w ⊑ z) → 1 ≤ up (w .length)
 lengthens z w k n = go (up (w .length)) refl
   where
     back : up (w .length) ≡ 0 → (l : Limit) → w .length ⊕ l ≤ᴸ l
@@ -110,11 +110,11 @@ lengthens z w k n = go (up (w .length)) refl
 
     go : (m : ℕ) → up (w .length) ≡ m → 1 ≤ m
     go zero e =
-        absurd (n (inside (joined-extends z w k) (unfold joined in ≤-trans (lesser-r (w .end) (w .length ⊕ z .end)) (back e (z .end))) (unfold joined in ≤-trans (lesser-l (w .length ⊕ z .length) (w .end ⊕ z .nstart)) (back e (z .length)))))
+        absurd (n (inside (across-extends z w k) (unfold across in ≤-trans (lesser-r (w .end) (w .length ⊕ z .end)) (back e (z .end))) (unfold across in ≤-trans (lesser-l (w .length ⊕ z .length) (w .end ⊕ z .nstart)) (back e (z .length)))))
     go (suc m) e = omega arith
 
 -- where the right zone is composed again later on, with a result that does not lie inside, the first time adds its whole length
-adds : (z w u : Zone) → Closed z → Closed w → Extends (joined z w) u → ¬ (joined u w ⊑ joined z w) → w .length ⊕ z .length ≤ᴸ w .end ⊕ z .nstart
+adds : (z w u : Zone) → Closed z → Closed w → Extends (across z w) u → ¬ (across u w ⊑ across z w) → w .length ⊕ z .length ≤ᴸ w .end ⊕ z .nstart
 adds z w u h k f n = go (dec (w .length ⊕ z .length) (w .end ⊕ z .nstart))
   where
     regroup : w .length ⊕ z .length ≤ᴸ (w .length ⊕ z .end) ⊕ z .nstart
@@ -122,34 +122,34 @@ adds z w u h k f n = go (dec (w .length ⊕ z .length) (w .end ⊕ z .nstart))
 
     go : Dec (w .length ⊕ z .length ≤ᴸ w .end ⊕ z .nstart) → w .length ⊕ z .length ≤ᴸ w .end ⊕ z .nstart
     go (yes l) = l
-    go (no l) = absurd (n (inside (extends-trans f (joined-extends u w k)) ends lengths))
+    go (no l) = absurd (n (inside (extends-trans f (across-extends u w k)) ends lengths))
       where
         -- w.end is below w.length ⊕ z.end, so both ends are w's
-        ends : joined u w .end ≤ᴸ joined z w .end
-        ends = unfold joined in ≤-trans (lesser-l (w .end) (w .length ⊕ u .end)) (at-least-both (w .end) (≤-refl (w .end)) (settle (dec (w .end) (w .length ⊕ z .end))))
+        ends : across u w .end ≤ᴸ across z w .end
+        ends = unfold across in ≤-trans (lesser-l (w .end) (w .length ⊕ u .end)) (at-least-both (w .end) (≤-refl (w .end)) (settle (dec (w .end) (w .length ⊕ z .end))))
           where
             settle : Dec (w .end ≤ᴸ w .length ⊕ z .end) → w .end ≤ᴸ w .length ⊕ z .end
             settle (yes e) = e
             settle (no e) = absurd (l (≤-trans regroup (⊕-mono (not≤ e) (≤-refl (z .nstart)))))
 
-        lengths : joined u w .length ≤ᴸ joined z w .length
-        lengths = unfold joined in ≤-trans (lesser-r (w .length ⊕ u .length) (w .end ⊕ u .nstart)) (≤-trans (⊕-mono (≤-refl (w .end)) (≤-trans (f .nstart) (unfold joined in lesser-l (z .nstart) (w .nstart ⊕ z .length)))) (at-least-both (w .end ⊕ z .nstart) (not≤ l) (≤-refl _)))
+        lengths : across u w .length ≤ᴸ across z w .length
+        lengths = unfold across in ≤-trans (lesser-r (w .length ⊕ u .length) (w .end ⊕ u .nstart)) (≤-trans (⊕-mono (≤-refl (w .end)) (≤-trans (f .nstart) (unfold across in lesser-l (z .nstart) (w .nstart ⊕ z .length)))) (at-least-both (w .end ⊕ z .nstart) (not≤ l) (≤-refl _)))
 
 -- ---- the same, as spans
 
-pub extends-step : (z w : Zone) → Closed w → {u : Zone} → Extends (joined z w) u → Extends z u
-extends-step z w k f = extends-trans (joined-extends z w k) f
+pub extends-step : (z w : Zone) → Closed w → {u : Zone} → Extends (across z w) u → Extends z u
+extends-step z w k f = extends-trans (across-extends z w k) f
 
-pub span-longer : (z w : Zone) → Closed z → Closed w → ¬ (joined z w ⊑ z) → span z ≤ span (joined z w)
+pub span-longer : (z w : Zone) → Closed z → Closed w → ¬ (across z w ⊑ z) → span z ≤ span (across z w)
 unfolding span
 span-longer z w h k n = span-mono (longer z w h k n)
 
-pub span-some : (z w : Zone) → Closed w → ¬ (joined z w ⊑ z) → 1 ≤ span w
+pub span-some : (z w : Zone) → Closed w → ¬ (across z w ⊑ z) → 1 ≤ span w
 unfolding span
 span-some z w k n = lengthens z w k n
 
-pub span-adds : (z w u : Zone) → Closed z → Closed w → Extends (joined z w) u → ¬ (joined u w ⊑ joined z w) → span z + span w ≤ span (joined z w)
-unfolding span joined
+pub span-adds : (z w u : Zone) → Closed z → Closed w → Extends (across z w) u → ¬ (across u w ⊑ across z w) → span z + span w ≤ span (across z w)
+unfolding span across
 span-adds z w u h k f n =
     let a = span-mono (at-least-both (w .length ⊕ z .length) (≤-refl (w .length ⊕ z .length)) (adds z w u h k f n)) in
     let b = span-sum (w .length) (z .length) (long k) (long h) in

@@ -5,7 +5,7 @@ pub mod Helly
 pub mod Closed
 pub mod Tighten
 pub mod Compose
-pub mod Join
+pub mod Across
 pub mod Narrow
 pub mod Sharp
 pub mod Tight

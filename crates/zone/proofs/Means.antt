@@ -4,7 +4,7 @@ use mathlib.Core.Bool.{Bool}
 use Rattle.zone.specs.Zone.{Zone, MaybeZone, tighten, meet, compose, contains, Tightens, Meets, Composes, Contains}
 use Rattle.zone.proofs.Tighten.{tighten-is, tighten-tight, meet-is, meet-tight}
 use Rattle.zone.proofs.Compose.{compose-is}
-use Rattle.zone.proofs.Join.{compose-tight}
+use Rattle.zone.proofs.Across.{compose-tight}
 use Rattle.zone.proofs.Tight.{tight-is, tight-maybe, inclusion-is, contains-⊑}
 
 pub tighten-means : (z : Zone) {r : MaybeZone} → r ≡ tighten z → Tightens z r

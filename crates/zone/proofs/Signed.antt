@@ -109,20 +109,20 @@ module _ {a b : ℤ} (f : SFits w32 a) (g : SFits w32 b) where
   pub odd-is : ¬ (ofZ w32 (toZ w32 (ofZ w32 (shrZ (toZ w32 (ofZ w32 a)) 2)) *ℤ pos 2) ≡ ofZ w32 a) → pos 1 ≡ (a +ℤ b) -ℤ code (decode a ⊕ decode b)
   odd-is n = excess-odd a b (λ e. n (rw (half-is f, e)))
 
-  mark-small : mag (b -ℤ shrZ b 2 *ℤ pos 2) ≤ 1
-  mark-small = omega (arithZ, half b, times (shrZ b 2) 2, diff b (shrZ b 2 *ℤ pos 2), size (b -ℤ shrZ b 2 *ℤ pos 2))
+  parity-small : mag (b -ℤ shrZ b 2 *ℤ pos 2) ≤ 1
+  parity-small = omega (arithZ, half b, times (shrZ b 2) 2, diff b (shrZ b 2 *ℤ pos 2), size (b -ℤ shrZ b 2 *ℤ pos 2))
 
-  mark : SFits w32 (b -ℤ shrZ b 2 *ℤ pos 2)
-  mark = fits-by (omega (arith, mark-small))
+  parity : SFits w32 (b -ℤ shrZ b 2 *ℤ pos 2)
+  parity = fits-by (omega (arith, parity-small))
 
-  pub mark-fits : SFits w32 (toZ w32 (ofZ w32 b) -ℤ toZ w32 (ofZ w32 (toZ w32 (ofZ w32 (shrZ (toZ w32 (ofZ w32 b)) 2)) *ℤ pos 2)))
-  mark-fits = rw (whole-is g, back g) mark
+  pub parity-fits : SFits w32 (toZ w32 (ofZ w32 b) -ℤ toZ w32 (ofZ w32 (toZ w32 (ofZ w32 (shrZ (toZ w32 (ofZ w32 b)) 2)) *ℤ pos 2)))
+  parity-fits = rw (whole-is g, back g) parity
 
-  mark-is : toZ w32 (ofZ w32 (toZ w32 (ofZ w32 b) -ℤ toZ w32 (ofZ w32 (toZ w32 (ofZ w32 (shrZ (toZ w32 (ofZ w32 b)) 2)) *ℤ pos 2)))) ≡ b -ℤ shrZ b 2 *ℤ pos 2
-  mark-is = rw (whole-is g, back g) (back mark)
+  parity-is : toZ w32 (ofZ w32 (toZ w32 (ofZ w32 b) -ℤ toZ w32 (ofZ w32 (toZ w32 (ofZ w32 (shrZ (toZ w32 (ofZ w32 b)) 2)) *ℤ pos 2)))) ≡ b -ℤ shrZ b 2 *ℤ pos 2
+  parity-is = rw (whole-is g, back g) (back parity)
 
   pub even-is : ofZ w32 (toZ w32 (ofZ w32 (shrZ (toZ w32 (ofZ w32 a)) 2)) *ℤ pos 2) ≡ ofZ w32 a → let r = toZ w32 (ofZ w32 (toZ w32 (ofZ w32 b) -ℤ toZ w32 (ofZ w32 (toZ w32 (ofZ w32 (shrZ (toZ w32 (ofZ w32 b)) 2)) *ℤ pos 2)))) in (r ≡ (a +ℤ b) -ℤ code (decode a ⊕ decode b)) × (mag r ≤ 1)
-  even-is t = rw mark-is (excess-even a b (same-whole f t), mark-small)
+  even-is t = rw parity-is (excess-even a b (same-whole f t), parity-small)
 
 -- the sum of two words, less what it has too much
 module _ {a b : ℤ} (f : SFits w32 a) (g : SFits w32 b) (p : Small 4_000_000 (decode a)) (q : Small 4_000_000 (decode b)) where

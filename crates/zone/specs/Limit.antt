@@ -2,7 +2,7 @@
 use mathlib.Core.Bool.{Bool, cond}
 use Prim.Native.Nat.{ℕ, _≤_}
 use lib.Dec.{T}
-use lib.IntN.{ℤ, pos, _+ℤ_, _*ℤ_}
+use lib.IntN.{ℤ, pos, negℤ, _+ℤ_, _*ℤ_}
 use lib.Signed.{leZ, ltZ, shrZ, mag, _≤ℤ_, _<ℤ_}
 use Rattle.zone.specs.Time.{Time, difference, scaled}
 pub use Rattle.zone.specs.declared.Limit.{Limit}
@@ -38,6 +38,13 @@ Below a ⊕ Below b = Below (a +ℤ b)
 -- 0, reached
 abbrev pub nought : Limit
 nought = AtMost (pos 0)
+
+-- "at most n", reached; and "at least n", which "is kept as an upper limit on the negated quantity"
+abbrev pub most : ℕ → Limit
+most n = AtMost (pos n)
+
+abbrev pub least : ℕ → Limit
+least n = AtMost (negℤ (pos n))
 
 abbrev pub value : Limit → ℤ
 value (AtMost v) = v

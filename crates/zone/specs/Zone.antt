@@ -132,8 +132,8 @@ meet z w = tighten (both z w)
 
 -- ---- composition: z from start to cut, w from cut to end. Each limit goes by the cut, or not by the cut, whichever is smaller
 
-unfoldable pub joined : Zone → Zone → Zone
-joined z w =
+unfoldable pub across : Zone → Zone → Zone
+across z w =
     record {
       start = lesser (z .start) (z .nlength ⊕ w .start);
       nstart = lesser (z .nstart) (w .nstart ⊕ z .length);
@@ -145,7 +145,7 @@ joined z w =
 
 -- empty where the ends of z and the starts of w leave no room for a cut
 unfoldable pub compose : Zone → Zone → MaybeZone
-compose z w = where-room (w .nstart) (z .end) (where-room (z .nend) (w .start) (zone (joined z w)))
+compose z w = where-room (w .nstart) (z .end) (where-room (z .nend) (w .start) (zone (across z w)))
 
 -- ---- inclusion: no limit of w is above that of z
 

@@ -8,8 +8,8 @@ ghost use mathlib.Core.Path.{_≡_};
 ghost use Prim.Native.Nat.{_≤_};
 ghost use lib.IntN.{pos, negℤ, _+ℤ_, _-ℤ_};
 ghost use lib.Signed.{mag};
-ghost use Rattle.zone.specs.Limit.{at-most, lesser, _⊕_, nought, code, decode, Small};
-ghost use Rattle.zone.specs.Zone.{tighter, tighten, both, meet, joined, compose, contains, run, diagonal, everything, limited, band, Ranged, Tightens, Meets, Composes, Contains};
+ghost use Rattle.zone.specs.Limit.{at-most, lesser, _⊕_, nought, most, least, code, decode, Small};
+ghost use Rattle.zone.specs.Zone.{tighter, tighten, both, meet, across, compose, contains, run, diagonal, everything, limited, band, Ranged, Tightens, Meets, Composes, Contains};
 
 // An upper limit: reached (non-strict) or not reached (strict), with its whole number.
 pub enum Limit {
@@ -97,6 +97,22 @@ fn or_sum(a: i32, b: i32, c: i32) -> i32
 }
 
 impl Limit {
+    // At most n, reached.
+    pub fn most(n: u32) -> Limit
+        requires { ⌜ n ≤ 1_000_000 ⌝ }
+        ensures { λ r. ⌜ r ≡ most n ⌝ }
+    {
+        Limit::AtMost(positive(n))
+    }
+
+    // At least n, reached: at most −n of the negated quantity.
+    pub fn least(n: u32) -> Limit
+        requires { ⌜ n ≤ 1_000_000 ⌝ }
+        ensures { λ r. ⌜ r ≡ least n ⌝ }
+    {
+        Limit::AtMost(negative(n))
+    }
+
     fn plus(self, other: Limit) -> Limit
         requires { ⌜ (Small 4_000_000 self) × (Small 4_000_000 other) ⌝ }
         ensures { λ r. ⌜ r ≡ self ⊕ other ⌝ }
@@ -261,9 +277,9 @@ impl Zone {
 
     // The limits on start and end that a cut between the two zones leaves. Each sum has the other zone's limit first: in this
     // order the compiler sees of most limits that the word of one that was just read is the word it was read from.
-    fn joined(self, other: Zone) -> Zone
+    fn across(self, other: Zone) -> Zone
         requires { ⌜ (Ranged 1_000_000 self) × (Ranged 1_000_000 other) ⌝ }
-        ensures { λ r. ⌜ r ≡ joined self other ⌝ }
+        ensures { λ r. ⌜ r ≡ across self other ⌝ }
     {
         let s = self.start;
         let ns = self.nstart;
@@ -303,7 +319,7 @@ impl Zone {
         if !starts.leaves_room(nends) {
             return MaybeZone::Empty;
         }
-        MaybeZone::Zone(self.joined(other))
+        MaybeZone::Zone(self.across(other))
     }
 
     // Whether every stretch of the other zone, which is tight, lies in this one.

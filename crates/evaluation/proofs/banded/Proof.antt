@@ -3,7 +3,7 @@ use mathlib.Core.Logic.{inl, inr}
 use native.Mathlib.Omega.{arith}
 use borrow.Author.Needs.{needs}
 use Rattle.list.proofs.Slots.{kept-trans, kept-within}
-use Rattle.evaluation.proofs.Answers.{over, stands-brought, kept-region, band-sound}
+use Rattle.evaluation.proofs.Standings.{over, stands-brought, kept-region, band-sound}
 use Rattle.evaluation.proofs.banded.Statement.{statement}
 use Rattle.evaluation.proofs.banded.Tie as tie
 

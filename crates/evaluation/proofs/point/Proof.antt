@@ -7,7 +7,7 @@ use Rattle.zone.proofs.Laws.{proper-diagonal, ranged, ranged-more}
 use Rattle.zone.specs.Zone.{diagonal}
 use Rattle.list.specs.Slots.{listAt}
 use Rattle.list.specs.declared.Inserted.the-variants.{Placed}
-use Rattle.evaluation.proofs.Answers.{first-placed, put-built, put-kept, stands}
+use Rattle.evaluation.proofs.Standings.{first-placed, put-built, put-kept, stands}
 use Rattle.evaluation.proofs.point.Statement.{statement}
 use Rattle.evaluation.proofs.point.Tie as tie
 

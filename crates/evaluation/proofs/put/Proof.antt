@@ -1,7 +1,7 @@
 -- `put` meets its contract: the three ways of an insertion. Assumes nothing.
 use borrow.Author.Needs.{needs}
-use Rattle.list.specs.declared.Inserted.the-variants.{Away, Placed, Full}
-use Rattle.evaluation.proofs.Answers.{put-built, put-kept}
+use Rattle.list.specs.declared.Inserted.the-variants.{Away, Placed, Overflow}
+use Rattle.evaluation.proofs.Standings.{put-built, put-kept}
 use Rattle.evaluation.proofs.put.Statement.{statement}
 use Rattle.evaluation.proofs.put.Tie as tie
 
@@ -21,7 +21,7 @@ returns-3 : tie.Need-returns-3
 returns-3 c =
     let start = c .before .before .before .before .before in
     let a = rw (c .enum-told2 .given .1) at (c .before .before .before .insert .ensures) in
-    (put-built (start .args .z) _ _ _ _ (start .pre .0) Full a, put-kept (start .args .z) _ _ _ _ (start .pre .0) Full a)
+    (put-built (start .args .z) _ _ _ _ (start .pre .0) Overflow a, put-kept (start .args .z) _ _ _ _ (start .pre .0) Overflow a)
 
 pub put-spec : {M : Type 1} → statement M
 put-spec =

@@ -3,7 +3,7 @@ use mathlib.Core.Path.{_∙_}
 use native.Mathlib.Omega.{arith}
 use borrow.Author.Needs.{needs}
 use Rattle.zone.specs.Zone.{band}
-use Rattle.evaluation.proofs.Answers.{upper-small, lower-small, small-negated}
+use Rattle.evaluation.proofs.Standings.{upper-small, lower-small, small-negated}
 use Rattle.evaluation.proofs.range_band.Statement.{statement}
 use Rattle.evaluation.proofs.range_band.Tie as tie
 

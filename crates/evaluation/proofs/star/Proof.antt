@@ -3,7 +3,7 @@ use mathlib.Core.Logic.{inl, inr}
 use native.Mathlib.Omega.{arith}
 use borrow.Author.Needs.{needs}
 use Rattle.list.proofs.Slots.{kept-trans, kept-within, listAt-length}
-use Rattle.evaluation.proofs.Answers.{closes-over, closes-brought, kept-region, made-few}
+use Rattle.evaluation.proofs.Standings.{closes-over, closes-brought, kept-region, made-few}
 use Rattle.evaluation.proofs.star.Statement.{statement}
 use Rattle.evaluation.proofs.star.Tie as tie
 

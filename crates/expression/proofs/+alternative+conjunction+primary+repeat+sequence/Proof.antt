@@ -5,22 +5,22 @@ use mathlib.Core.Path.{_≡_, refl, ap, _∙_}
 use native.Mathlib.Omega.{arith}
 use lib.ListN.{length}
 use borrow.Author.Needs.{needs}
-use Rattle.expression.specs.Descent.{bars, ampersands, dots, joining, repeating, joinsAfter, marksAfter}
+use Rattle.expression.specs.Descent.{bars, ampersands, dots, joining, repeating, joinsAfter, postfixesAfter}
 use Rattle.expression.specs.Readers.{wrongRange, Reached}
 use Rattle.expression.proofs.Text.{not-true, not-false}
 use Rattle.expression.proofs.Checks.{capped-wrong}
-use Rattle.expression.proofs.Turns.{
+use Rattle.expression.proofs.Additions.{
   joins-begin,
   joins-none,
   joins-end,
   joins-stop,
   joins-on-to,
-  marks-begin,
-  marks-none,
-  marks-end,
-  marks-star-on,
-  marks-band-stop,
-  marks-band-on,
+  postfixes-begin,
+  postfixes-none,
+  postfixes-end,
+  postfixes-star-on,
+  postfixes-band-stop,
+  postfixes-band-on,
   marked-stop,
   bracketed-stop,
   bracketed-as,
@@ -121,7 +121,7 @@ abbrev conjunction-μ-loop : conjunction-lts.MeasureT-loop
 conjunction-μ-loop text at nodes₀ used tree₀ nodes tree = length text - tree .at
 
 abbrev repeat-Inv-loop : repeat-lts.InvT-loop
-repeat-Inv-loop text at nodes₀ used tree₀ nodes tree = Reached repeating marksAfter text at used nodes₀ nodes tree × (length nodes ≡ length nodes₀)
+repeat-Inv-loop text at nodes₀ used tree₀ nodes tree = Reached repeating postfixesAfter text at used nodes₀ nodes tree × (length nodes ≡ length nodes₀)
 
 abbrev repeat-μ-loop : repeat-lts.MeasureT-loop
 repeat-μ-loop text at nodes₀ used tree₀ nodes tree = length text - tree .at
@@ -374,9 +374,9 @@ pub +alternative+conjunction+primary+repeat+sequence-spec : {M : Type 1} → sta
     (λ c. search needs)
     (λ c. search needs)
     -- repeat: returns
-    (λ c. marks-none _ (rw (c .enum-told .given .1) at (c .before .before .before .before .primary .ensures)))
+    (λ c. postfixes-none _ (rw (c .enum-told .given .1) at (c .before .before .before .before .primary .ensures)))
     -- repeat: loop-holds
-    (λ c. (marks-begin (rw (c .before .first .given .1) at (c .before .before .before .before .before .primary .ensures)), refl))
+    (λ c. (postfixes-begin (rw (c .before .first .given .1) at (c .before .before .before .before .before .primary .ensures)), refl))
     (λ c κs. search needs)
     -- repeat: add-extended
     (λ c. omega (arith, c .before .before .before .byte-is .ensures .inside (c .before .before .if1 .taken)))
@@ -394,13 +394,13 @@ pub +alternative+conjunction+primary+repeat+sequence-spec : {M : Type 1} → sta
     let turn = c .before .before .before .before .before .before .before .before in
     let the-byte-is = c .before .before .before .before .before .before .before .byte-is in
     let the-if1 = c .before .before .before .before .before .before .if1 in
-    (marks-star-on (turn .loop .inv .0) (the-byte-is .ensures .is ∙ the-if1 .taken) (the-byte-is .ensures .inside (the-if1 .taken)) (c .before .before .before .extended .ensures) (c .before .before .add .ensures .0) (c .before .before .add .ensures .1), omega (arith, c .before .before .add .kept, turn .loop .inv .1)))
+    (postfixes-star-on (turn .loop .inv .0) (the-byte-is .ensures .is ∙ the-if1 .taken) (the-byte-is .ensures .inside (the-if1 .taken)) (c .before .before .before .extended .ensures) (c .before .before .add .ensures .0) (c .before .before .add .ensures .1), omega (arith, c .before .before .add .kept, turn .loop .inv .1)))
     (λ c κs. search needs)
     (λ c. search needs)
     -- repeat: returns-2
     (λ c.
     let the-primary = c .before .before .before .before .before .before .before .before .before .before .primary in
-    marks-end (c .before .before .before .before .loop .inv .0) ((rw (c .before .before .before .before .before .before .first .given .1) at (the-primary .ensures)) .kept) (c .before .before .before .byte-is .ensures .is ∙ c .before .before .if1 .left) (c .before .byte-is2 .ensures .is ∙ not-true (c .before .byte-is2 .result) (c .if2 .taken)))
+    postfixes-end (c .before .before .before .before .loop .inv .0) ((rw (c .before .before .before .before .before .before .first .given .1) at (the-primary .ensures)) .kept) (c .before .before .before .byte-is .ensures .is ∙ c .before .before .if1 .left) (c .before .byte-is2 .ensures .is ∙ not-true (c .before .byte-is2 .result) (c .if2 .taken)))
     -- repeat: add-range-at
     (λ c. let m = not-false (c .before .before .byte-is2 .result) (c .before .if2 .left) in omega (arith, c .before .before .byte-is2 .ensures .inside m))
     (λ c κs. search needs)
@@ -411,7 +411,7 @@ pub +alternative+conjunction+primary+repeat+sequence-spec : {M : Type 1} → sta
     (λ c.
     let turn = c .before .before .before .before .before .before .before .before in
     let the-byte-is2 = c .before .before .before .before .before .byte-is2 in
-    let m = not-false (the-byte-is2 .result) (c .before .before .before .before .if2 .left) in marks-band-stop (turn .loop .inv .0) (c .before .before .before .before .before .before .before .byte-is .ensures .is ∙ c .before .before .before .before .before .before .if1 .left) (the-byte-is2 .ensures .is ∙ m) (the-byte-is2 .ensures .inside m) (rw (c .enum-told2 .given .1) at (c .before .before .range-at .ensures)))
+    let m = not-false (the-byte-is2 .result) (c .before .before .before .before .if2 .left) in postfixes-band-stop (turn .loop .inv .0) (c .before .before .before .before .before .before .before .byte-is .ensures .is ∙ c .before .before .before .before .before .before .if1 .left) (the-byte-is2 .ensures .is ∙ m) (the-byte-is2 .ensures .inside m) (rw (c .enum-told2 .given .1) at (c .before .before .range-at .ensures)))
     (λ c κs. search needs)
     (λ c κs. search needs)
     -- repeat: add-requires-2
@@ -434,7 +434,7 @@ pub +alternative+conjunction+primary+repeat+sequence-spec : {M : Type 1} → sta
     let the-byte-is2 = c .before .before .before .before .before .before .before .before .before .before .before .before .byte-is2 in
     let the-if2 = c .before .before .before .before .before .before .before .before .before .before .before .if2 in
     let the-range-at = c .before .before .before .before .before .before .before .before .before .range-at in
-    let m = not-false (the-byte-is2 .result) (the-if2 .left) in let x = rw (c .before .before .before .before .before .before .before .end .given .1) at (the-range-at .ensures) in (marks-band-on (turn .loop .inv .0) (the-byte-is .ensures .is ∙ the-if1 .left) (the-byte-is2 .ensures .is ∙ m) (the-byte-is2 .ensures .inside m) x (c .before .before .before .before .wrong-range .ensures ∙ ap wrongRange (x .is) ∙ capped-wrong (x .x)) (c .before .before .before .extended2 .ensures) (c .before .before .add2 .ensures .0) (c .before .before .add2 .ensures .1), omega (arith, c .before .before .add2 .kept, turn .loop .inv .1))))
+    let m = not-false (the-byte-is2 .result) (the-if2 .left) in let x = rw (c .before .before .before .before .before .before .before .end .given .1) at (the-range-at .ensures) in (postfixes-band-on (turn .loop .inv .0) (the-byte-is .ensures .is ∙ the-if1 .left) (the-byte-is2 .ensures .is ∙ m) (the-byte-is2 .ensures .inside m) x (c .before .before .before .before .wrong-range .ensures ∙ ap wrongRange (x .is) ∙ capped-wrong (x .x)) (c .before .before .before .extended2 .ensures) (c .before .before .add2 .ensures .0) (c .before .before .add2 .ensures .1), omega (arith, c .before .before .add2 .kept, turn .loop .inv .1))))
     λ t. sequence-lts.spec (
       repeat-below t,
       repeat.Post,

@@ -2,7 +2,7 @@
 use mathlib.Core.Path.{sym, _∙_}
 use mathlib.Core.Logic.{inl, inr}
 use native.Mathlib.Omega.{arith}
-use Rattle.expression.proofs.Answers.{refused-length, right-length, refused-stop, refused-part, refused-letter, refused-range, refused-depth, accepted, leaves-some, whole-form, stored-exact}
+use Rattle.expression.proofs.Parses.{refused-length, right-length, refused-stop, refused-part, refused-letter, refused-range, refused-depth, accepted, leaves-some, whole-form, stored-exact}
 use borrow.Author.Needs.{needs}
 use Rattle.expression.proofs.parse.Statement.{statement}
 use Rattle.expression.proofs.parse.Tie as tie

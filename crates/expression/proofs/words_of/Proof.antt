@@ -2,7 +2,7 @@
 use mathlib.Core.Path.{sym, ap, _∙_}
 use Rattle.expression.specs.declared.Upper.{Upper}
 use Rattle.expression.specs.Expression.{Sign, Join, Unary, Band}
-use Rattle.expression.specs.declared.Node.the-variants.{Literal, Joined, Applied}
+use Rattle.expression.specs.declared.Node.the-variants.{Literal, Infix, Applied}
 use Rattle.expression.specs.Stored.{decoded}
 use borrow.Author.Needs.{needs}
 use Rattle.expression.proofs.words_of.Statement.{statement}
@@ -22,15 +22,15 @@ returns-3 c = let n = c .before .before .before .node .given in ap (λ (s : Sign
 
 returns-4 : tie.Need-returns-4
 unfolding decoded
-returns-4 c = let n = c .before .before .before .node2 .given in ap (λ (j : Join). Joined j (n .0 .1 .0) (n .0 .1 .1 .0)) (sym (c .enum-told4 .given .1)) ∙ sym (n .1)
+returns-4 c = let n = c .before .before .before .node2 .given in ap (λ (j : Join). Infix j (n .0 .1 .0) (n .0 .1 .1 .0)) (sym (c .enum-told4 .given .1)) ∙ sym (n .1)
 
 returns-5 : tie.Need-returns-5
 unfolding decoded
-returns-5 c = let n = c .before .before .before .node2 .given in ap (λ (j : Join). Joined j (n .0 .1 .0) (n .0 .1 .1 .0)) (sym (c .enum-told5 .given .1)) ∙ sym (n .1)
+returns-5 c = let n = c .before .before .before .node2 .given in ap (λ (j : Join). Infix j (n .0 .1 .0) (n .0 .1 .1 .0)) (sym (c .enum-told5 .given .1)) ∙ sym (n .1)
 
 returns-6 : tie.Need-returns-6
 unfolding decoded
-returns-6 c = let n = c .before .before .before .node2 .given in ap (λ (j : Join). Joined j (n .0 .1 .0) (n .0 .1 .1 .0)) (sym (c .enum-told6 .given .1)) ∙ sym (n .1)
+returns-6 c = let n = c .before .before .before .node2 .given in ap (λ (j : Join). Infix j (n .0 .1 .0) (n .0 .1 .1 .0)) (sym (c .enum-told6 .given .1)) ∙ sym (n .1)
 
 returns-7 : tie.Need-returns-7
 unfolding decoded

@@ -1,5 +1,5 @@
 use native.Mathlib.Omega.{arith}
-use Rattle.operators.proofs.Answers.{listing}
+use Rattle.operators.proofs.Listings.{listing}
 use Rattle.list.specs.Slots.{listAt}
 use borrow.Author.Needs.{needs}
 use Rattle.operators.proofs.all_pairs.Statement.{statement}

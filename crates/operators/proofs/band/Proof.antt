@@ -1,5 +1,5 @@
 use Rattle.list.proofs.Slots.{list-there, still-source}
-use Rattle.operators.proofs.Answers.{band-kept, band-alone, sound-band}
+use Rattle.operators.proofs.Listings.{band-kept, band-alone, sound-band}
 use Rattle.list.proofs.Copies.{kept-both, kept-neither}
 use Rattle.list.proofs.Puts.{holds-same}
 use Rattle.list.specs.Slots.{listAt, Sound}

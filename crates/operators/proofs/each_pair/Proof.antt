@@ -15,10 +15,10 @@ use Rattle.operators.proofs.each_pair.Statement.{statement}
 use Rattle.operators.proofs.each_pair.Tie as tie
 
 abbrev Inv-loop : tie.InvT-loop
-Inv-loop words₀ op left n right m target count k₀ mark₀ i₀ words k mark i = (i ≤ n) × Going (pairs op (listAt words₀ (left + i * 6) (n - i)) (listAt words₀ right m)) (insert-each (pairs op (listAt words₀ left n) (listAt words₀ right m)) (listAt words₀ target count)) false (listAt words₀ target count) target words₀ words k mark
+Inv-loop words₀ op left n right m target count k₀ altered₀ i₀ words k altered i = (i ≤ n) × Going (pairs op (listAt words₀ (left + i * 6) (n - i)) (listAt words₀ right m)) (insert-each (pairs op (listAt words₀ left n) (listAt words₀ right m)) (listAt words₀ target count)) false (listAt words₀ target count) target words₀ words k altered
 
 abbrev μ-loop : tie.MeasureT-loop
-μ-loop words₀ op left n right m target count k₀ mark₀ i₀ words k mark i = n - i
+μ-loop words₀ op left n right m target count k₀ altered₀ i₀ words k altered i = n - i
 
 loop-holds : tie.Need-loop-holds Inv-loop μ-loop
 loop-holds c = (omega arith, going-same (ap (λ (A : List Zone). pairs (c .args .op) A (listAt (c .args .words .now) (c .args .right) (c .args .m))) (sym (all-left _ _ _))) (going-start _ _ _ _ _ (c .pre .2 .few)))

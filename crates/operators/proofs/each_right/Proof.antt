@@ -15,10 +15,10 @@ use Rattle.operators.proofs.each_right.Statement.{statement}
 use Rattle.operators.proofs.each_right.Tie as tie
 
 abbrev Inv-loop : tie.InvT-loop
-Inv-loop words₀ op left right m target count changed out₀ n₀ mark₀ j₀ words out n mark j = (j ≤ m) × Going (map (apply op (zoneAt words₀ left)) (listAt words₀ (right + j * 6) (m - j))) (insert-each (map (apply op (zoneAt words₀ left)) (listAt words₀ right m)) (listAt words₀ target count)) changed (listAt words₀ target count) target words₀ words n mark
+Inv-loop words₀ op left right m target count changed out₀ n₀ altered₀ j₀ words out n altered j = (j ≤ m) × Going (map (apply op (zoneAt words₀ left)) (listAt words₀ (right + j * 6) (m - j))) (insert-each (map (apply op (zoneAt words₀ left)) (listAt words₀ right m)) (listAt words₀ target count)) changed (listAt words₀ target count) target words₀ words n altered
 
 abbrev μ-loop : tie.MeasureT-loop
-μ-loop words₀ op left right m target count changed out₀ n₀ mark₀ j₀ words out n mark j = m - j
+μ-loop words₀ op left right m target count changed out₀ n₀ altered₀ j₀ words out n altered j = m - j
 
 loop-holds : tie.Need-loop-holds Inv-loop μ-loop
 loop-holds c = (omega arith, going-same (ap (map (apply (c .args .op) (zoneAt (c .args .words .now) (c .args .left)))) (sym (all-left _ _ _))) (going-start _ _ _ _ _ (c .pre .2 .few)))
@@ -48,7 +48,7 @@ turn-of c = c .before .before .before .before .before .before .before
 answered : (c : tie.After-apply Inv-loop μ-loop) {r : MaybeZone} → apply (start-of c .args .op) (c .before .before .before .before .read-zone .result) (c .before .before .read-zone2 .result) ≡ r
     → Going (r ∷ map (apply (start-of c .args .op) (zoneAt (start-of c .args .words .now) (start-of c .args .left))) (listAt (start-of c .args .words .now) (start-of c .args .right + (turn-of c .loop .j + 1) * 6) (start-of c .args .m - (turn-of c .loop .j + 1))))
     (insert-each (map (apply (start-of c .args .op) (zoneAt (start-of c .args .words .now) (start-of c .args .left))) (listAt (start-of c .args .words .now) (start-of c .args .right) (start-of c .args .m))) (listAt (start-of c .args .words .now) (start-of c .args .target) (start-of c .args .count)))
-    (start-of c .args .changed) (listAt (start-of c .args .words .now) (start-of c .args .target) (start-of c .args .count)) (start-of c .args .target) (start-of c .args .words .now) (turn-of c .loop .words) (turn-of c .loop .n) (turn-of c .loop .mark)
+    (start-of c .args .changed) (listAt (start-of c .args .words .now) (start-of c .args .target) (start-of c .args .count)) (start-of c .args .target) (start-of c .args .words .now) (turn-of c .loop .words) (turn-of c .loop .n) (turn-of c .loop .altered)
 answered c q =
     going-applied _ _ _ (c .before .before .before .before .before .before .loop-test .taken) (start-of c .pre .1 .few) (start-of c .pre .3) (c .before .before .read-zone2 .ensures) (start-of c .args .op) (start-of c .pre .0) (c .before .before .before .before .read-zone .ensures) (turn-of c .loop .inv .1) q
 

@@ -14,10 +14,10 @@ use Rattle.operators.proofs.each_zone.Statement.{statement}
 use Rattle.operators.proofs.each_zone.Tie as tie
 
 abbrev Inv-loop : tie.InvT-loop
-Inv-loop words₀ source n target count k₀ mark₀ i₀ words k mark i = (i ≤ n) × Going (map zone (listAt words₀ (source + i * 6) (n - i))) (insert-each (map zone (listAt words₀ source n)) (listAt words₀ target count)) false (listAt words₀ target count) target words₀ words k mark
+Inv-loop words₀ source n target count k₀ altered₀ i₀ words k altered i = (i ≤ n) × Going (map zone (listAt words₀ (source + i * 6) (n - i))) (insert-each (map zone (listAt words₀ source n)) (listAt words₀ target count)) false (listAt words₀ target count) target words₀ words k altered
 
 abbrev μ-loop : tie.MeasureT-loop
-μ-loop words₀ source n target count k₀ mark₀ i₀ words k mark i = n - i
+μ-loop words₀ source n target count k₀ altered₀ i₀ words k altered i = n - i
 
 loop-holds : tie.Need-loop-holds Inv-loop μ-loop
 loop-holds c = (omega arith, going-same (ap (map zone) (sym (all-left _ _ _))) (going-start _ _ _ _ _ (c .pre .1 .few)))

@@ -1,6 +1,6 @@
 use Rattle.words.specs.Words.{zoneAt}
 use Rattle.operators.proofs.Puts.{grown, grown-kept}
-use Rattle.list.specs.declared.Inserted.the-variants.{Away, Placed, Full}
+use Rattle.list.specs.declared.Inserted.the-variants.{Away, Placed, Overflow}
 use borrow.Author.Needs.{needs}
 use Rattle.operators.proofs.grow.Statement.{statement}
 use Rattle.operators.proofs.grow.Tie as tie
@@ -27,7 +27,7 @@ returns-3 c =
     let z = zoneAt (start .args .w .now) 0 in
     let few = start .pre .few in
     let a = rw (c .enum-told2 .given .1) at (c .before .before .before .insert-words .ensures) in
-    (grown z _ _ _ _ (start .args .changed) few Full a, grown-kept z _ _ _ _ (start .args .changed) few Full a)
+    (grown z _ _ _ _ (start .args .changed) few Overflow a, grown-kept z _ _ _ _ (start .args .changed) few Overflow a)
 
 pub grow-spec : {M : Type 1} → statement M
 grow-spec =

@@ -1,5 +1,5 @@
 use Rattle.list.proofs.Slots.{kept-trans, list-there, still-source}
-use Rattle.operators.proofs.Answers.{union-left-over, union-right-over, union-listing}
+use Rattle.operators.proofs.Listings.{union-left-over, union-right-over, union-listing}
 use Rattle.list.specs.Slots.{listAt}
 use native.Mathlib.Omega.{arith}
 use borrow.Author.Needs.{needs}

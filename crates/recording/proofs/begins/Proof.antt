@@ -3,7 +3,7 @@ use mathlib.Core.Path.{ap, sym, _∙_}
 use native.Mathlib.Omega.{arith}
 use borrow.Author.Tests.{eq-eqb}
 use Rattle.recording.specs.Scan.{begins}
-use Rattle.recording.specs.declared.Recording.{Recording}
+use Rattle.recording.specs.declared.Dimensions.{Dimensions}
 use Rattle.recording.proofs.Refusals.{read-numbers, read-count, read-room, read-time}
 use Rattle.recording.proofs.Levels.{begins-change, begins-end}
 use Rattle.recording.proofs.begins.Statement.{statement}
@@ -16,7 +16,7 @@ returns c = rw (eq-eqb (c .before .before .args .j) 0 (c .if1 .taken))
 returns-2 : tie.Need-returns-2
 returns-2 c =
     let start = c .before .before .before .before in
-    ap (λ (r : Recording). r .ticks) (read-numbers (start .pre)) ∙ sym (begins-end (start .args .bytes .now) (start .args .j) (omega (arith, read-count (start .pre))))
+    ap (λ (r : Dimensions). r .ticks) (read-numbers (start .pre)) ∙ sym (begins-end (start .args .bytes .now) (start .args .j) (omega (arith, read-count (start .pre))))
 
 mul-le32 : tie.Need-mul-le32
 mul-le32 c =

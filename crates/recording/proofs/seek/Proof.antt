@@ -13,10 +13,10 @@ use Rattle.recording.proofs.seek.Statement.{statement}
 use Rattle.recording.proofs.seek.Tie as tie
 
 abbrev Inv-loop : tie.InvT-loop
-Inv-loop bytes recording channel level from to j wanted i₀ i = Seeking bytes channel level from to j wanted i
+Inv-loop bytes size channel level from to j wanted i₀ i = Seeking bytes channel level from to j wanted i
 
 abbrev μ-loop : tie.MeasureT-loop
-μ-loop bytes recording channel level from to j wanted i₀ i = changes bytes + 1 - i
+μ-loop bytes size channel level from to j wanted i₀ i = changes bytes + 1 - i
 
 -- a change that does not reach has no tick
 unreached : {t : Bool} (x to m n : ℕ) → t ≡ (leb to x || ltb m n) → t ≡ false → m < n → ⊥

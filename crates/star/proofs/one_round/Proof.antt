@@ -1,6 +1,6 @@
 use Rattle.list.proofs.Slots.{kept-trans, still-source}
 use Rattle.list.proofs.Copies.{copy-kept, copy-order}
-use Rattle.star.proofs.Answers.{round-is, round-changes, round-same}
+use Rattle.star.proofs.Closings.{round-is, round-changes, round-same}
 use native.Mathlib.Omega.{arith}
 use mathlib.Core.Path.{sym, _∙_}
 use borrow.Author.Needs.{needs}

@@ -4,9 +4,9 @@ use native.Mathlib.Omega.{arith}
 use Rattle.zone.proofs.Laws.{ranged, ranged-more, proper-diagonal}
 use Rattle.zone.specs.Zone.{diagonal}
 use Rattle.zone.specs.declared.Zone.{Zone}
-use Rattle.star.specs.Star.{Rounds, finished, burst, over-round}
+use Rattle.star.specs.Star.{Rounds, finished, overflow, over-round}
 use Rattle.list.proofs.Copies.{copy-kept, copy-order, kept-one, both-trans, brought}
-use Rattle.star.proofs.Answers.{ending-room, ending-apart, star-no-room, star-closed}
+use Rattle.star.proofs.Closings.{ending-room, ending-apart, star-no-room, star-closed}
 use Rattle.list.proofs.Puts.{held}
 use Rattle.list.proofs.Slots.{list-there, listAt-copied, still-source}
 use borrow.Author.Needs.{needs}
@@ -35,7 +35,7 @@ returns c =
     let start = c .before .before .before .before .before .before .before .before in
     let f = copy-kept (start .pre .0 .few) (c .before .before .before .before .before .before .copy-zones .ensures) in
     let same = list-there (start .args .inner) (start .args .m) f (start .pre .3) (start .pre .0 .few) in
-    (over-round (subst (λ (I : List Zone). Rounds I I burst) same (rw (c .enum-told .given .1) at (c .before .before .before .all-rounds .ensures .0))), both-trans (kept-one f) (c .before .before .before .all-rounds .ensures .1))
+    (over-round (subst (λ (I : List Zone). Rounds I I overflow) same (rw (c .enum-told .given .1) at (c .before .before .before .all-rounds .ensures .0))), both-trans (kept-one f) (c .before .before .before .all-rounds .ensures .1))
 
 bring-requires : tie.Need-bring-requires
 bring-requires c κs =

@@ -1,4 +1,4 @@
-use Rattle.zone.proofs.Signed.{whole-fits, odd-is, mark-fits, even-is}
+use Rattle.zone.proofs.Signed.{whole-fits, odd-is, parity-fits, even-is}
 use native.Mathlib.Omega.{arith}
 use Rattle.zone.proofs.excess.Statement.{statement}
 use Rattle.zone.proofs.excess.Tie as tie
@@ -13,7 +13,7 @@ mul-result : tie.Need-mul-result
 mul-result c = whole-fits (c .before .fits .b)
 
 sub-result : tie.Need-sub-result
-sub-result c = mark-fits (c .before .fits .a) (c .before .fits .b)
+sub-result c = parity-fits (c .before .fits .a) (c .before .fits .b)
 
 returns-2 : tie.Need-returns-2
 returns-2 c = even-is (c .before .fits .a) (c .before .fits .b) (c .if1 .left)

@@ -16,18 +16,18 @@ use Rattle.zone.specs.declared.Limit.the-variants.{AtMost}
 use Rattle.zone.specs.Zone.{Proper, diagonal}
 use Rattle.zone.proofs.Laws.{proper-band}
 use Rattle.zone.proofs.Times.{≤-trans, tick-≤}
-use Rattle.list.specs.Insert.{covered, outside, Built, overfull, insert-each}
-use Rattle.star.specs.Star.{finished, burst, Star}
+use Rattle.list.specs.Insert.{covered, outside, Built, overflow, insert-each}
+use Rattle.star.specs.Star.{finished, overflow, Star}
 use Rattle.list.specs.Slots.{listAt, Kept, KeptBoth, Sound, InsertAs}
-use Rattle.operators.specs.Answers.{SoundBand, Listing, BuiltAs}
-use Rattle.star.specs.Answers.{Closing}
+use Rattle.operators.specs.Listing.{SoundBand, Listing, BuiltAs}
+use Rattle.star.specs.Closing.{Closing}
 use Rattle.list.specs.declared.Inserted.{Inserted}
-use Rattle.list.specs.declared.Inserted.the-variants.{Away, Placed, Full}
+use Rattle.list.specs.declared.Inserted.the-variants.{Away, Placed, Overflow}
 use Rattle.operators.specs.declared.Listed.{Listed}
-use Rattle.operators.specs.declared.Listed.the-variants.{Count, Overfull}
+use Rattle.operators.specs.declared.Listed.the-variants.{Count, Overflow}
 use Rattle.list.proofs.Puts.{insert-placed}
 use Rattle.operators.proofs.Puts.{grown, grown-kept}
-use Rattle.operators.proofs.Answers.{listing}
+use Rattle.operators.proofs.Listings.{listing}
 use Rattle.list.proofs.Copies.{brought}
 use Rattle.star.proofs.Theorems.{star-bound}
 use Rattle.expression.specs.declared.Range.{Range}
@@ -44,13 +44,13 @@ use Rattle.evaluation.specs.Steps.{Standing}
 abbrev pub counted : ℕ → Inserted → Listed
 counted n Away = Count n
 counted n (Placed k) = Count k
-counted n Full = Overfull
+counted n Overflow = Overflow
 
 module _ (z : Zone) (ws vs : List ℤ) (base n : ℕ) (few : n ≤ 128) where
   pub put-built : (r : Inserted) → InsertAs z ws base n vs r → BuiltAs (insert-each (zone z ∷ []) (listAt ws base n)) vs base (counted n r)
   put-built Away a = listing (grown z ws vs base n false few Away a)
   put-built (Placed k) a = listing (grown z ws vs base n false few (Placed k) a)
-  put-built Full a = grown z ws vs base n false few Full a
+  put-built Overflow a = grown z ws vs base n false few Overflow a
 
   pub put-kept : (r : Inserted) → InsertAs z ws base n vs r → Kept base 768 ws vs
   put-kept r a = grown-kept z ws vs base n false few r a
@@ -60,12 +60,12 @@ pub first-placed : (z : Zone) (ws vs : List ℤ) (base : ℕ) (r : Inserted) →
 unfolding listAt covered outside
 first-placed z ws vs base (Placed n) a = (n, refl)
 first-placed z ws vs base Away (e, k) = absurd (let p = insert-placed z [] refl (omega arith) in let f : _≡_ {A = ℕ} 0 1 = cc in omega arith)
-first-placed z ws vs base Full (e, k) = absurd (let p = insert-placed z [] refl (omega arith) in let f : _≡_ {A = ℕ} 0 1 = cc in omega arith)
+first-placed z ws vs base Overflow (e, k) = absurd (let p = insert-placed z [] refl (omega arith) in let f : _≡_ {A = ℕ} 0 1 = cc in omega arith)
 
 -- ---- a list that was built
 
 -- no list: the value overflows
-pub over : {b : Built} (r : ℕ) → b ≡ overfull → overflow ≡ ended b r
+pub over : {b : Built} (r : ℕ) → b ≡ overflow → overflow ≡ ended b r
 over r e = ap (λ (c : Built). ended c r) (sym e)
 
 -- a list where it was built, and one brought to another slot
@@ -79,8 +79,8 @@ stands-brought r l e = record { list = l .list; means = ap (λ (c : Built). ende
 -- ---- a star
 
 module _ {from to : ℕ} {inner : List Zone} (rounds : ℕ) where
-  pub closes-over : Star inner (diagonal from to) burst → Closes from to inner rounds overflow
-  closes-over s = record { outcome = burst; star = s; built = refl }
+  pub closes-over : Star inner (diagonal from to) overflow → Closes from to inner rounds overflow
+  closes-over s = record { outcome = overflow; star = s; built = refl }
 
   pub closes-brought : {ws vs : List ℤ} {at base n made : ℕ} → Closing inner (diagonal from to) ws at n made → listAt vs base n ≡ listAt ws at n
       → Standing (Closes from to inner rounds) vs base n (rounds + made)

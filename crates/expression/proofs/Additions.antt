@@ -10,7 +10,7 @@ use Rattle.expression.specs.declared.Tree.{Tree}
 use Rattle.expression.specs.declared.Read.{Read}
 use Rattle.expression.specs.declared.Read.the-variants.{Part, Stop}
 use Rattle.expression.specs.declared.Node.{Node}
-use Rattle.expression.specs.declared.Node.the-variants.{Epsilon, Literal, Joined, Applied}
+use Rattle.expression.specs.declared.Node.the-variants.{Epsilon, Literal, Infix, Applied}
 use Rattle.expression.specs.Expression.{Expression, epsilon, High, Low, literal, join, Star, Band, unary, depth}
 use Rattle.expression.specs.Stored.{
   nodeAt,
@@ -20,16 +20,16 @@ use Rattle.expression.specs.Stored.{
   stored-join,
   stored-unary,
 }
-use Rattle.expression.specs.Descent.{Got, no, yes, branch, bind, starts, expect, ranged, limits, Join, bars, mark, Rank, joining, repeating, single, below, descent, joinsAfter, marksAfter}
-use Rattle.expression.specs.Readers.{capped, cappedRange, wrongRange, width, wrong, Kept, Placed, over, beside, around, nothing, Reached, ReadAs, Got-at, Offset-at, ClosedAs}
+use Rattle.expression.specs.Descent.{Got, no, yes, branch, bind, starts, expect, ranged, limits, Join, bars, symbol, Rank, joining, repeating, single, below, descent, joinsAfter, postfixesAfter}
+use Rattle.expression.specs.Readers.{capped, cappedRange, wrongRange, width, wrong, FrontKept, Placed, over, beside, around, nothing, Reached, ReadAs, Got-at, Offset-at, ClosedAs}
 use Rattle.expression.proofs.Text.{add-two, rest-drop}
-use Rattle.expression.proofs.Steps.{joining-is, repeating-is, single-is, joins-on, joins-off, marks-star, marks-band, marks-off}
+use Rattle.expression.proofs.Steps.{joining-is, repeating-is, single-is, joins-on, joins-off, postfixes-star, postfixes-band, postfixes-off}
 use Rattle.expression.proofs.Nodes.{kept-refl, kept-trans, stored-keep}
 
 -- a node at the free place, over what `under` sums up
 adds : {k : Rank} {after : Expression → List ℕ → Got Expression} {text before ns ns' : List ℕ} {at used : ℕ} {new : Tree} {node : Node} (under : Tree) (e : Expression)
     → at < under .at → under .at ≤ length text → under .used + at + 1 ≤ under .at + used → used ≤ under .used → under .depth ≤ under .used
-    → Kept (used * 4) before ns → Placed (under .used) node ns ns'
+    → FrontKept (used * 4) before ns → Placed (under .used) node ns ns'
     → Stored ns' (under .used) (capped e) → depth e ≡ suc (under .depth) → width e ≡ under .width → wrong e ≡ under .wrong
     → descent k (drop at text) ≡ after e (drop (under .at) text)
     → new ≡ over under → Reached k after text at used before ns' new
@@ -53,7 +53,7 @@ adds under e a i f g s k p st de wi wr re is =
 
 -- the same part, seen from another level, with another rest, or from words before it
 again : {k k' : Rank} {after after' : Expression → List ℕ → Got Expression} {text before before' ns : List ℕ} {at used : ℕ} {tree : Tree}
-    → (s : Reached k after text at used before ns tree) → Kept (used * 4) before' ns → descent k' (drop at text) ≡ after' (s .e) (drop (tree .at) text)
+    → (s : Reached k after text at used before ns tree) → FrontKept (used * 4) before' ns → descent k' (drop at text) ≡ after' (s .e) (drop (tree .at) text)
     → Reached k' after' text at used before' ns tree
 again s k h =
     record {
@@ -85,11 +85,11 @@ module _ (j : Join) where
   joins-none s e = joining-is j s ∙ rw e
 
   module _ {text before ns : List ℕ} {at used : ℕ} {tree : Tree} (s : Reached (joining j) (joinsAfter j) text at used before ns tree) where
-    pub joins-end : {entry : List ℕ} → Kept (used * 4) entry before → starts (mark j) (drop (tree .at) text) ≡ false → Reached (joining j) yes text at used entry ns tree
+    pub joins-end : {entry : List ℕ} → FrontKept (used * 4) entry before → starts (symbol j) (drop (tree .at) text) ≡ false → Reached (joining j) yes text at used entry ns tree
     joins-end k e = again s (kept-trans (omega arith) k (s .kept)) (s .read ∙ joins-off j (s .e) (drop (tree .at) text) e)
 
-    -- the mark of the join follows
-    module _ (m : starts (mark j) (drop (tree .at) text) ≡ true) (l : tree .at < length text) where
+    -- the symbol of the join follows
+    module _ (m : starts (symbol j) (drop (tree .at) text) ≡ true) (l : tree .at < length text) where
       goes : descent (joining j) (drop at text) ≡ bind (descent (below j) (drop (tree .at + 1) text)) (λ f r. joinsAfter j (join j (s .e) f) r)
       goes = s .read ∙ joins-on j (s .e) (drop (tree .at) text) m ∙ rw (rest-drop text (tree .at) l)
 
@@ -100,11 +100,11 @@ module _ (j : Join) where
       -- one more operand, and the node over both
       pub joins-on-to : {ns' ns'' : List ℕ} {right sum new : Tree}
           → Reached (below j) yes text (tree .at + 1) (tree .used) ns ns' right
-          → sum ≡ beside tree right → new ≡ over sum → Placed (sum .used) (Joined j (tree .root) (right .root)) ns' ns''
+          → sum ≡ beside tree right → new ≡ over sum → Placed (sum .used) (Infix j (tree .root) (right .root)) ns' ns''
           → Reached (joining j) (joinsAfter j) text at used before ns'' new
       unfolding bind capped depth width wrong
       joins-on-to {ns' = ns'} {ns'' = ns''} {right = right} r sum-is is p' =
-          let p : Placed (right .used) (Joined j (tree .root) (right .root)) ns' ns'' = rw sum-is at p' in
+          let p : Placed (right .used) (Infix j (tree .root) (right .root)) ns' ns'' = rw sum-is at p' in
           let left : tree .root * 4 + 4 ≤ tree .used * 4 = omega (arith, s .rooted) in
           let rightly : right .root * 4 + 4 ≤ right .used * 4 = omega (arith, r .rooted) in
           let between : tree .used * 4 ≤ right .used * 4 = omega (arith, r .grown) in
@@ -123,27 +123,27 @@ module _ (j : Join) where
 
 -- `*` AND BANDS
 
-pub marks-begin : {text before ns : List ℕ} {at used : ℕ} {tree : Tree}
-    → Reached single yes text at used before ns tree → Reached repeating marksAfter text at used ns ns tree
+pub postfixes-begin : {text before ns : List ℕ} {at used : ℕ} {tree : Tree}
+    → Reached single yes text at used before ns tree → Reached repeating postfixesAfter text at used ns ns tree
 unfolding bind
-marks-begin r = again r (kept-refl _ _) (repeating-is _ ∙ rw (r .read))
+postfixes-begin r = again r (kept-refl _ _) (repeating-is _ ∙ rw (r .read))
 
-pub marks-none : (s : List ℕ) → descent single s ≡ no → descent repeating s ≡ no
+pub postfixes-none : (s : List ℕ) → descent single s ≡ no → descent repeating s ≡ no
 unfolding bind
-marks-none s e = repeating-is s ∙ rw e
+postfixes-none s e = repeating-is s ∙ rw e
 
-module _ {text before ns : List ℕ} {at used : ℕ} {tree : Tree} (s : Reached repeating marksAfter text at used before ns tree) where
-  pub marks-end : {entry : List ℕ} → Kept (used * 4) entry before → starts 42 (drop (tree .at) text) ≡ false → starts 123 (drop (tree .at) text) ≡ false
+module _ {text before ns : List ℕ} {at used : ℕ} {tree : Tree} (s : Reached repeating postfixesAfter text at used before ns tree) where
+  pub postfixes-end : {entry : List ℕ} → FrontKept (used * 4) entry before → starts 42 (drop (tree .at) text) ≡ false → starts 123 (drop (tree .at) text) ≡ false
       → Reached repeating yes text at used entry ns tree
-  marks-end k e f = again s (kept-trans (omega arith) k (s .kept)) (s .read ∙ marks-off (s .e) (drop (tree .at) text) e f)
+  postfixes-end k e f = again s (kept-trans (omega arith) k (s .kept)) (s .read ∙ postfixes-off (s .e) (drop (tree .at) text) e f)
 
   -- an operator with one operand, whose text ends before b
   extends : {ns' : List ℕ} {under new : Tree} {node : Node} {b : ℕ} (w : Bool) (e : Expression)
       → tree .at < b → b ≤ length text → under ≡ around tree b w → new ≡ over under → Placed (under .used) node ns ns'
       → (nodeAt ns' (tree .used) ≡ node → tree .root < tree .used → Stored ns' (tree .root) (capped (s .e)) → Stored ns' (tree .used) (capped e))
       → depth e ≡ suc (depth (s .e)) → width e ≡ width (s .e) → wrong e ≡ (w || wrong (s .e))
-      → descent repeating (drop at text) ≡ marksAfter e (drop b text)
-      → Reached repeating marksAfter text at used before ns' new
+      → descent repeating (drop at text) ≡ postfixesAfter e (drop b text)
+      → Reached repeating postfixesAfter text at used before ns' new
   extends {ns'} {node = node} {b = b} w e g i under-is is p' st de wi wr re =
       let p : Placed (tree .used) node ns ns' = rw under-is at p' in
       let low : tree .root * 4 + 4 ≤ tree .used * 4 = omega (arith, s .rooted) in
@@ -151,28 +151,28 @@ module _ {text before ns : List ℕ} {at used : ℕ} {tree : Tree} (s : Reached 
       (st (p .placed) (s .rooted) (stored-keep low (p .others) (s .stored)))
       (de ∙ rw (s .depth-is)) (wi ∙ rw (s .width-is)) (wr ∙ rw (s .wrong-is)) re (is ∙ ap over under-is)
 
-  pub marks-star-on : {ns' : List ℕ} {under new : Tree} → starts 42 (drop (tree .at) text) ≡ true → tree .at < length text
+  pub postfixes-star-on : {ns' : List ℕ} {under new : Tree} → starts 42 (drop (tree .at) text) ≡ true → tree .at < length text
       → under ≡ around tree (tree .at + 1) false → new ≡ over under → Placed (under .used) (Applied Star (tree .root)) ns ns'
-      → Reached repeating marksAfter text at used before ns' new
+      → Reached repeating postfixesAfter text at used before ns' new
   unfolding capped depth width wrong
-  marks-star-on m l u n p =
+  postfixes-star-on m l u n p =
       extends false (unary Star (s .e)) (omega arith) (omega arith) u n p (λ a b c. stored-unary a b c) refl refl refl
-      (s .read ∙ marks-star (s .e) (drop (tree .at) text) m ∙ rw (rest-drop text (tree .at) l))
+      (s .read ∙ postfixes-star (s .e) (drop (tree .at) text) m ∙ rw (rest-drop text (tree .at) l))
 
   -- a brace follows
   module _ (m : starts 42 (drop (tree .at) text) ≡ false) (m' : starts 123 (drop (tree .at) text) ≡ true) (l : tree .at < length text) where
-    goes-in : descent repeating (drop at text) ≡ bind (limits (drop (tree .at + 1) text)) (λ x r. marksAfter (unary (Band x) (s .e)) r)
-    goes-in = s .read ∙ marks-band (s .e) (drop (tree .at) text) m m' ∙ rw (rest-drop text (tree .at) l)
+    goes-in : descent repeating (drop at text) ≡ bind (limits (drop (tree .at + 1) text)) (λ x r. postfixesAfter (unary (Band x) (s .e)) r)
+    goes-in = s .read ∙ postfixes-band (s .e) (drop (tree .at) text) m m' ∙ rw (rest-drop text (tree .at) l)
 
-    pub marks-band-stop : limits (drop (tree .at + 1) text) ≡ no → descent repeating (drop at text) ≡ no
+    pub postfixes-band-stop : limits (drop (tree .at + 1) text) ≡ no → descent repeating (drop at text) ≡ no
     unfolding bind
-    marks-band-stop e = goes-in ∙ rw e
+    postfixes-band-stop e = goes-in ∙ rw e
 
-    pub marks-band-on : {ns' : List ℕ} {under new : Tree} {b : ℕ} {r : Range} {w : Bool} → (x : Got-at limits cappedRange text (tree .at + 1) b r)
+    pub postfixes-band-on : {ns' : List ℕ} {under new : Tree} {b : ℕ} {r : Range} {w : Bool} → (x : Got-at limits cappedRange text (tree .at + 1) b r)
         → w ≡ wrongRange (x .x) → under ≡ around tree b w → new ≡ over under → Placed (under .used) (Applied (Band r) (tree .root)) ns ns'
-        → Reached repeating marksAfter text at used before ns' new
+        → Reached repeating postfixesAfter text at used before ns' new
     unfolding capped depth width wrong bind
-    marks-band-on {w = w} x wr u n p =
+    postfixes-band-on {w = w} x wr u n p =
         extends w (unary (Band (x .x)) (s .e)) (omega (arith, x .ahead)) (x .inside) u n p (λ a b c. stored-unary (a ∙ ap (λ (q : Range). Applied (Band q) (tree .root)) (x .is)) b c) refl refl (rw wr)
         (goes-in ∙ rw (x .read))
 

@@ -7,9 +7,9 @@ use Rattle.zone.specs.declared.Zone.{Zone}
 use Rattle.zone.specs.declared.MaybeZone.{MaybeZone}
 use Rattle.zone.specs.declared.MaybeZone.the-variants.{Zone as zone, Empty as empty}
 use Rattle.zone.specs.Zone.{Proper}
-use Rattle.list.specs.Insert.{Built, listed, overfull}
+use Rattle.list.specs.Insert.{Built, listed, overflow}
 use Rattle.operators.specs.declared.Listed.{Listed}
-use Rattle.operators.specs.declared.Listed.the-variants.{Count, Overfull}
+use Rattle.operators.specs.declared.Listed.the-variants.{Count, Overflow}
 use Rattle.list.specs.Slots.{Holds}
 
 abbrev pub SoundBand : MaybeZone → Type 0
@@ -24,4 +24,4 @@ pub record Listing (built : Built) (vs : List ℤ) (target n : ℕ) : Type 0 whe
 
 abbrev pub BuiltAs : Built → List ℤ → ℕ → Listed → Type 0
 BuiltAs built vs target (Count n) = Listing built vs target n
-BuiltAs built vs target Overfull = built ≡ overfull
+BuiltAs built vs target Overflow = built ≡ overflow

@@ -11,7 +11,7 @@ use borrow.Author.Tests.{ltb-true, ltb-false}
 use Rattle.expression.specs.declared.Tree.{Tree}
 use Rattle.expression.specs.Expression.{Expression, depth}
 use Rattle.expression.specs.Grammar.{Form, alternative}
-use Rattle.expression.specs.Refusal.{Cause, wrong-length, no-form, wrong-letter, wrong-range, too-deep, Refused, Accepted}
+use Rattle.expression.specs.Refusal.{DrillCause, wrong-length, no-form, wrong-letter, wrong-range, too-deep, Refused, Accepted}
 use Rattle.expression.specs.Stored.{Stored}
 use Rattle.expression.specs.Descent.{Got, no, yes, bars, joining, descent}
 use Rattle.expression.specs.Readers.{width, wrong, Reached}
@@ -23,7 +23,7 @@ use Rattle.expression.proofs.Checks.{letter-below, letter-beyond, range
 abbrev pub Long : List ℕ → Type 0
 Long text = (length text ≡ 0) ⊎ (255 < length text)
 
-cause-least : {text : List ℕ} {channels n : ℕ} → Cause text channels n → 4 ≤ n
+cause-least : {text : List ℕ} {channels n : ℕ} → DrillCause text channels n → 4 ≤ n
 cause-least (wrong-length h) = omega arith
 cause-least (no-form h) = omega arith
 cause-least (wrong-letter f m h) = omega arith
@@ -41,7 +41,7 @@ module _ {text : List ℕ} {channels : ℕ} (right : Long text → ⊥) where
   refused-form : ((e : Expression) → Form alternative text e → ⊥) → Refused text channels 5
   refused-form h = record { holds = no-form h; first = earlier }
     where
-      earlier : (m : ℕ) → m < 5 → Cause text channels m → ⊥
+      earlier : (m : ℕ) → m < 5 → DrillCause text channels m → ⊥
       earlier m l (wrong-length w) = right w
       earlier m l (no-form w) = omega arith
       earlier m l (wrong-letter f i w) = omega arith
@@ -59,7 +59,7 @@ module _ {text : List ℕ} {channels : ℕ} (right : Long text → ⊥) where
   -- the text is the expression e
   module _ {e : Expression} (form : Form alternative text e) where
     -- no cause below n, if each of these checks that is below n was passed
-    none-below : (n : ℕ) → (6 < n → width e ≤ channels) → (7 < n → wrong e ≡ false) → (8 < n → depth e ≤ 16) → (m : ℕ) → m < n → Cause text channels m → ⊥
+    none-below : (n : ℕ) → (6 < n → width e ≤ channels) → (7 < n → wrong e ≡ false) → (8 < n → depth e ≤ 16) → (m : ℕ) → m < n → DrillCause text channels m → ⊥
     none-below n six seven eight m l (wrong-length w) = right w
     none-below n six seven eight m l (no-form w) = w e form
     none-below n six seven eight m l (wrong-letter f i w) = omega (arith, six l, letter-below e (rw (unique f form) at i))

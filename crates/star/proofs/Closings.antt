@@ -8,17 +8,17 @@ use native.Mathlib.Omega.{arith}
 use lib.IntN.{ℤ}
 use Rattle.zone.specs.declared.Zone.{Zone}
 use Rattle.zone.specs.declared.MaybeZone.the-variants.{Zone as zone}
-use Rattle.list.specs.Insert.{listed, overfull, insert-each}
+use Rattle.list.specs.Insert.{listed, overflow, insert-each}
 use Rattle.operators.specs.declared.Operation.the-variants.{Compose}
 use Rattle.operators.specs.Operators.{pairs}
-use Rattle.star.specs.Star.{finished, burst, Rounds, Star, closed, no-room, round}
+use Rattle.star.specs.Star.{finished, overflow, Rounds, Star, closed, no-room, round}
 use Rattle.list.specs.Slots.{listAt, Holds, Disjoint}
-use Rattle.star.specs.Answers.{Closing}
+use Rattle.star.specs.Closing.{Closing}
 use Rattle.list.specs.Steps.{Copied}
-use Rattle.operators.specs.Steps.{Mark, Growth}
+use Rattle.operators.specs.Steps.{Alters, Growth}
 use Rattle.star.specs.Steps.{Changes}
 use Rattle.list.proofs.Slots.{listAt-copied, list-there}
-use Rattle.operators.proofs.Loops.{mark-changed}
+use Rattle.operators.proofs.Loops.{alters-changed}
 use Rattle.list.proofs.Copies.{copy-kept}
 
 module _ {ws us : List ℤ} {list n inner m copy : ℕ} (few : n ≤ 128) (few′ : m ≤ 128) (c : Copied list copy (n * 6) ws us) (d : Disjoint list copy) (d′ : Disjoint inner copy) where
@@ -36,14 +36,14 @@ module _ {ws us : List ℤ} {list n inner m copy : ℕ} (few : n ≤ 128) (few�
   round-is = rw (same-list, same-inner, same-copy)
 
   module _ {vs : List ℤ} {k : ℕ} {changed : Bool} (g : Growth (insert-each (pairs Compose (listAt us list n) (listAt us inner m)) (listAt us copy n)) false (listAt us copy n) vs copy k changed) where
-    marked : Mark changed (listAt ws list n) (g .list)
-    marked = g .marks (listAt ws list n) same-copy
+    altered : Alters changed (listAt ws list n) (g .list)
+    altered = g .alters (listAt ws list n) same-copy
 
     pub round-changes : changed ≡ true → Changes (listAt ws inner m) (listAt ws list n) vs copy k
-    round-changes e = record { list = g .list; value = sym round-is ∙ g .value; new = mark-changed (subst (λ (b : Bool). Mark b (listAt ws list n) (g .list)) e marked); holds = g .holds }
+    round-changes e = record { list = g .list; value = sym round-is ∙ g .value; new = alters-changed (subst (λ (b : Bool). Alters b (listAt ws list n) (g .list)) e altered); holds = g .holds }
 
     pub round-same : changed ≡ false → round (listAt ws inner m) (listAt ws list n) ≡ listed (listAt ws list n)
-    round-same e = sym round-is ∙ g .value ∙ ap listed (subst (λ (b : Bool). Mark b (listAt ws list n) (g .list)) e marked)
+    round-same e = sym round-is ∙ g .value ∙ ap listed (subst (λ (b : Bool). Alters b (listAt ws list n) (g .list)) e altered)
 
 -- ---- a star: the rounds, then the diagonal
 
@@ -58,8 +58,8 @@ ending-apart (inr e) (inl h) = inr (inr (omega arith))
 ending-apart (inr e) (inr h) = inr (inl (omega arith))
 
 module _ {inner : List Zone} (diag : Zone) {F : List Zone} {made : ℕ} (r : Rounds inner inner (finished made F)) (us : List ℤ) (target n : ℕ) (h : Holds us target n F) where
-  pub star-no-room : insert-each (zone diag ∷ []) (listAt us target n) ≡ overfull → Star inner diag burst
-  star-no-room e = no-room r (subst (λ (L : List Zone). insert-each (zone diag ∷ []) L ≡ overfull) (h .zones) e)
+  pub star-no-room : insert-each (zone diag ∷ []) (listAt us target n) ≡ overflow → Star inner diag overflow
+  star-no-room e = no-room r (subst (λ (L : List Zone). insert-each (zone diag ∷ []) L ≡ overflow) (h .zones) e)
 
   pub star-closed : {vs : List ℤ} {k : ℕ} {before changed : Bool} → Growth (insert-each (zone diag ∷ []) (listAt us target n)) before (listAt us target n) vs target k changed → Closing inner diag vs target k made
   star-closed w = record { list = w .list; value = closed r (subst (λ (L : List Zone). insert-each (zone diag ∷ []) L ≡ listed (w .list)) (h .zones) (w .value)); holds = w .holds }

@@ -1,7 +1,7 @@
 -- The composition of two tight zones is tight as it stands: nothing is left to tighten.
 use mathlib.Core.Path.{_≡_, sym, ap, _∙_}
 use Rattle.zone.specs.Limit.{Limit, _≤ᴸ_, _⊕_, lesser, nought}
-use Rattle.zone.specs.Zone.{Zone, zone, where-room, joined, compose}
+use Rattle.zone.specs.Zone.{Zone, zone, where-room, across, compose}
 use Rattle.zone.proofs.Closed.{Closed, ClosedMaybe}
 use Rattle.zone.proofs.Order.{≤-refl, ≤-trans, flip, ⊕-mono, ⊕-comm, ⊕-assoc, fst, snd, right, left, mid, keep-l, keep-r, lesser-l, lesser-r, lesser-2}
 use Rattle.zone.proofs.Tighten.{room-is}
@@ -27,8 +27,8 @@ back a′ c p′ q q′ r r′ b′ p h1 h2 h3 h4 h5 h6 =
     (≤-trans (lesser-l a′ (p′ ⊕ c)) (keep-r b′ r′ q a′ (≤-trans h6 (⊕-mono (≤-refl b′) h5))))
 
 -- from a time of one zone to a time of the other, over the origin
-across : (r c q a′ b p′ : Limit) → r ≤ᴸ q ⊕ p′ → c ≤ᴸ b ⊕ a′ → nought ≤ᴸ b ⊕ p′ → lesser (r ⊕ c) (q ⊕ a′) ≤ᴸ lesser q (r ⊕ b) ⊕ lesser a′ (p′ ⊕ c)
-across r c q a′ b p′ h1 h2 h3 =
+through : (r c q a′ b p′ : Limit) → r ≤ᴸ q ⊕ p′ → c ≤ᴸ b ⊕ a′ → nought ≤ᴸ b ⊕ p′ → lesser (r ⊕ c) (q ⊕ a′) ≤ᴸ lesser q (r ⊕ b) ⊕ lesser a′ (p′ ⊕ c)
+through r c q a′ b p′ h1 h2 h3 =
     lesser-2 q (r ⊕ b) a′ (p′ ⊕ c) (lesser (r ⊕ c) (q ⊕ a′))
     (lesser-r (r ⊕ c) (q ⊕ a′))
     (≤-trans (lesser-l (r ⊕ c) (q ⊕ a′)) (left c r q p′ h1))
@@ -62,16 +62,16 @@ round-t r c q a′ c′ r′ a q′ b b′ p p′ h1 h2 h3 h4 h5 h6 h7 h8 h9 h10
     (rw (rotate q a′ c′ r′) (≤-trans h10 (⊕-mono h8 h9)))
     (≤-trans h4 (mid q a′ a q′ h3))
 
-joined-tight : {z w : Zone} → Closed z → Closed w → nought ≤ᴸ w .nstart ⊕ z .end → nought ≤ᴸ z .nend ⊕ w .start → Closed (joined z w)
-unfolding joined
-joined-tight {z} {w} h k a b =
+across-tight : {z w : Zone} → Closed z → Closed w → nought ≤ᴸ w .nstart ⊕ z .end → nought ≤ᴸ z .nend ⊕ w .start → Closed (across z w)
+unfolding across
+across-tight {z} {w} h k a b =
     record {
       start = out (z .start) (z .nlength) (w .start) (w .end) (w .nend) (w .length) (w .nlength) (z .end) (w .nstart) (k .start) (flip _ _ (k .round-length)) (h .start) (flip _ _ (k .round-end)) (k .nstart) a;
       nstart = back (z .nstart) (z .length) (w .nstart) (w .end) (w .nend) (w .length) (w .nlength) (z .nend) (w .start) (k .nstart) (flip _ _ (k .round-length)) (h .nstart) (flip _ _ (k .round-end)) (k .start) b;
       end = out (w .end) (w .length) (z .end) (z .start) (z .nstart) (z .nlength) (z .length) (w .start) (z .nend) (h .end) (h .round-length) (k .end) (flip _ _ (h .round-start)) (h .nend) b;
       nend = back (w .nend) (w .nlength) (z .nend) (z .start) (z .nstart) (z .nlength) (z .length) (w .nstart) (z .end) (h .nend) (h .round-length) (k .nend) (flip _ _ (h .round-start)) (h .end) a;
-      length = across (w .length) (z .length) (w .end) (z .nstart) (z .end) (w .nstart) (k .length) (h .length) (flip _ _ a);
-      nlength = across (z .nlength) (w .nlength) (z .start) (w .nend) (w .start) (z .nend) (h .nlength) (k .nlength) (flip _ _ b);
+      length = through (w .length) (z .length) (w .end) (z .nstart) (z .end) (w .nstart) (k .length) (h .length) (flip _ _ a);
+      nlength = through (z .nlength) (w .nlength) (z .start) (w .nend) (w .start) (z .nend) (h .nlength) (k .nlength) (flip _ _ b);
       round-start = round-0 (z .start) (z .nlength) (w .start) (z .nstart) (w .nstart) (z .length) (z .end) (z .nend) (h .round-start) (h .end) a (h .nend) b (flip _ _ (h .round-length)) (k .round-start);
       round-end = round-0 (w .end) (w .length) (z .end) (w .nend) (z .nend) (w .nlength) (w .start) (w .nstart) (k .round-end) (k .start) b (k .nstart) a (k .round-length) (h .round-end);
       round-length = round-t (w .length) (z .length) (w .end) (z .nstart) (z .nlength) (w .nlength) (z .start) (w .nend) (z .end) (z .nend) (w .start) (w .nstart) (h .round-length) (k .round-length) (flip _ _ (h .round-start)) (k .round-end) (h .end) (k .nstart) a (h .nend) (k .start) b;
@@ -82,6 +82,6 @@ joined-tight {z} {w} h k a b =
 pub compose-tight : {z w : Zone} → Closed z → Closed w → ClosedMaybe (compose z w)
 unfolding compose
 compose-tight {z} {w} h k =
-    room-is (w .nstart) (z .end) (where-room (z .nend) (w .start) (zone (joined z w))) ClosedMaybe
-    (λ a. room-is (z .nend) (w .start) (zone (joined z w)) ClosedMaybe (λ b. joined-tight h k a b) (λ n. tt))
+    room-is (w .nstart) (z .end) (where-room (z .nend) (w .start) (zone (across z w))) ClosedMaybe
+    (λ a. room-is (z .nend) (w .start) (zone (across z w)) ClosedMaybe (λ b. across-tight h k a b) (λ n. tt))
     (λ n. tt)

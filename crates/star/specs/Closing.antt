@@ -3,9 +3,9 @@ use mathlib.Core.List.{List}
 use Prim.Native.Nat.{ℕ}
 use lib.IntN.{ℤ}
 use Rattle.zone.specs.declared.Zone.{Zone}
-use Rattle.star.specs.Star.{finished, burst, Star}
+use Rattle.star.specs.Star.{finished, overflow, Star}
 use Rattle.star.specs.declared.Starred.{Starred}
-use Rattle.star.specs.declared.Starred.the-variants.{Finished, Burst}
+use Rattle.star.specs.declared.Starred.the-variants.{Finished, Overflow}
 use Rattle.list.specs.Slots.{Holds}
 
 -- what a star answers
@@ -16,4 +16,4 @@ pub record Closing (inner : List Zone) (diagonal : Zone) (vs : List ℤ) (target
 
 abbrev pub StarAs : List Zone → Zone → List ℤ → ℕ → Starred → Type 0
 StarAs inner diagonal vs target (Finished n rounds) = Closing inner diagonal vs target n rounds
-StarAs inner diagonal vs target Burst = Star inner diagonal burst
+StarAs inner diagonal vs target Overflow = Star inner diagonal overflow

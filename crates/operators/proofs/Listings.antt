@@ -11,10 +11,10 @@ use Rattle.zone.specs.declared.MaybeZone.the-variants.{Zone as zone}
 use Rattle.zone.specs.Zone.{Proper}
 use Rattle.words.specs.Words.{zoneAt, codes, overwrite}
 use Rattle.words.proofs.Words.{written-zone}
-use Rattle.list.specs.Insert.{Built, overfull, insert-each}
+use Rattle.list.specs.Insert.{Built, overflow, insert-each}
 use Rattle.operators.specs.Operators.{union}
 use Rattle.list.specs.Slots.{listAt, Kept, Sound}
-use Rattle.operators.specs.Answers.{Listing}
+use Rattle.operators.specs.Listing.{Listing}
 use Rattle.operators.specs.Steps.{Growth}
 use Rattle.list.proofs.Slots.{kept-within, kept-written}
 use Rattle.operators.proofs.Loops.{then, insert-each-append}
@@ -29,7 +29,7 @@ module _ (A B : List Zone) where
   unfolding union
   in-turn = insert-each-append (map zone A) (map zone B) []
 
-  pub union-left-over : insert-each (map zone A) [] ≡ overfull → union A B ≡ overfull
+  pub union-left-over : insert-each (map zone A) [] ≡ overflow → union A B ≡ overflow
   union-left-over e = in-turn ∙ ap (λ (r : Built). then r (insert-each (map zone B))) e
 
   -- after the left zones: B′ is the right list, read from the words as they are then
@@ -38,7 +38,7 @@ module _ (A B : List Zone) where
     unfolding listAt
     then-right = in-turn ∙ ap (λ (r : Built). then r (insert-each (map zone B))) (g .value) ∙ ap (insert-each (map zone B)) (sym (g .holds .zones)) ∙ ap (λ (C : List Zone). insert-each (map zone C) (listAt us target k)) (sym e)
 
-    pub union-right-over : insert-each (map zone B′) (listAt us target k) ≡ overfull → union A B ≡ overfull
+    pub union-right-over : insert-each (map zone B′) (listAt us target k) ≡ overflow → union A B ≡ overflow
     union-right-over f = then-right ∙ f
 
     pub union-listing : {vs : List ℤ} {n : ℕ} {between last : Bool} → Growth (insert-each (map zone B′) (listAt us target k)) between (listAt us target k) vs target n last → Listing (union A B) vs target n
