@@ -1,36 +1,78 @@
 -- One step of the evaluator: what a node says of its expression, and how the values of its operands make its own.
 use mathlib.Core.Path.{_≡_, sym, subst, _∙_}
 use mathlib.Core.List.{List}
-use Prim.Native.Nat.{ℕ, _+_, _-_, _≤_}
+use mathlib.Core.Logic.{inl}
+use Prim.Native.Nat.{ℕ, _+_, _-_, _*_, _≤_, _<_}
 use native.Mathlib.Omega.{arith}
 use lib.IntN.{ℤ}
+use lib.ListN.{length}
 use Rattle.zone.specs.declared.Zone.{Zone}
-use Rattle.list.specs.Slots.{listAt, Sound}
-use Rattle.recording.specs.declared.Dimensions.{Dimensions}
+use Rattle.list.specs.Slots.{slot-words, listAt, Kept, Sound, Source}
+use Rattle.list.proofs.Slots.{kept-within, listAt-kept}
 use Rattle.recording.specs.declared.Level.{Level}
-use Rattle.recording.specs.Reading.{ReadAs}
 use Rattle.recording.specs.Levels.{Shows}
-use Rattle.recording.proofs.Refusals.{read-ticks, read-numbers, read-headed}
 use Rattle.expression.specs.declared.Node.{Node}
 use Rattle.expression.specs.declared.Sign.{Sign}
 use Rattle.expression.specs.declared.Join.{Join}
 use Rattle.expression.specs.declared.Unary.{Unary}
 use Rattle.expression.specs.Expression.{Expression, epsilon, literal, join, unary}
 use Rattle.expression.specs.Stored.{nodeAt}
-use Rattle.expression.specs.Planted.{Planted, Operands}
-use Rattle.expression.proofs.Laws.{operands}
-use Rattle.evaluation.specs.Lists.{Value, overflow, ended, Then.goes, Then.stops, Both, Letter, joinList, applied, Evaluates}
-use Rattle.evaluation.specs.Satisfies.{levelOf}
-use Rattle.evaluation.specs.Steps.{Standing, EvaluatedAs, most-rounds}
-use Rattle.evaluation.specs.declared.Evaluated.{Evaluated}
-use Rattle.evaluation.specs.declared.Evaluated.the-variants.{Listed, Overflow}
-use Rattle.evaluation.proofs.Evaluation.{evaluates-well}
-use Rattle.evaluation.proofs.Totals.{rounds-few}
-use Rattle.evaluation.proofs.Standings.{sound-within}
+use Rattle.expression.specs.Planted.{Planted}
+use Rattle.expression.proofs.Laws.{Operands, operands}
+use Rattle.meaning.specs.Lists.{Value, overflow, ended, Then.goes, Then.stops, Both, Letter, joinList, applied, Evaluates}
+use Rattle.meaning.specs.Satisfies.{levelOf}
+use Rattle.evaluation.specs.Evaluating.{Looks}
+use Rattle.values.specs.Values.{Standing, EvaluatedAs, most-rounds, Ready, Came, Carried}
+use Rattle.evaluation.specs.declared.Window.{Window}
+use Rattle.values.specs.declared.Evaluated.{Evaluated}
+use Rattle.values.specs.declared.Evaluated.the-variants.{Listed, Overflow}
+use Rattle.meaning.proofs.Evaluation.{evaluates-well}
+use Rattle.evaluation.proofs.Rounds.{rounds-few}
+use Rattle.values.proofs.Standings.{sound-within}
+use Rattle.evaluation.proofs.Windows.{looks-ticks}
 
 -- what node i says of its expression, as the code finds the node
 pub node-is : {ns : List ℕ} {channels i d : ℕ} {e : Expression} {n : Node} (t : Node) → n ≡ nodeAt ns i → n ≡ t → Planted ns channels i d e → Operands ns channels (d - 1) e t
 node-is {ns} {channels} {i} {d} {e} t a h p = subst (Operands ns channels (d - 1) e) (sym a ∙ h) (operands p)
+
+-- ---- slots of operands: the left one's are the first of all, the right one's begin one slot later
+
+pub roomy : {a base size : ℕ} {ws vs : List ℤ} → Kept base size ws vs → a ≤ length ws → a ≤ length vs
+roomy k h = omega (arith, k .same-length)
+
+-- the depth that is left falls
+pub rest-falls : {d t : ℕ} → 0 < d → d ≡ t → d - 1 < t
+rest-falls some e = omega arith
+
+pub rest-few : {d : ℕ} → d ≤ 16 → d - 1 ≤ 16
+rest-few h = omega arith
+
+module _ {d : ℕ} (some : 0 < d) (base : ℕ) where
+  module _ {len : ℕ} (room : base + (d + 2) * slot-words ≤ len) where
+    pub room-left : base + (d - 1 + 2) * slot-words ≤ len
+    room-left = omega arith
+
+    pub room-right : base + slot-words + (d - 1 + 2) * slot-words ≤ len
+    room-right = omega arith
+
+    pub room-three : base + 3 * slot-words ≤ len
+    room-three = omega arith
+
+    pub room-second : base + slot-words + slot-words ≤ len
+    room-second = omega arith
+
+  module _ {ws vs : List ℤ} where
+    pub kept-left : Kept base ((d - 1 + 2) * slot-words) ws vs → Kept base ((d + 2) * slot-words) ws vs
+    kept-left k = kept-within (omega arith) (omega arith) k
+
+    pub kept-right : Kept (base + slot-words) ((d - 1 + 2) * slot-words) ws vs → Kept base ((d + 2) * slot-words) ws vs
+    kept-right k = kept-within (omega arith) (omega arith) k
+
+    pub kept-three : Kept base (3 * slot-words) ws vs → Kept base ((d + 2) * slot-words) ws vs
+    kept-three k = kept-within (omega arith) (omega arith) k
+
+    pub kept-one : Kept base slot-words ws vs → Kept base ((d + 2) * slot-words) ws vs
+    kept-one k = kept-within (omega arith) (omega arith) k
 
 -- ---- values of operands
 
@@ -38,27 +80,40 @@ evaluated-map : (P Q : Value → Type 0) (ws : List ℤ) (base : ℕ) → ((v : 
 evaluated-map P Q ws base f (Listed n k) s = record { list = s .list; means = f _ (s .means); holds = s .holds }
 evaluated-map P Q ws base f Overflow s = f overflow s
 
-module _ {bytes : List ℕ} {recording : Dimensions} (read : ReadAs bytes recording) where
-  -- the expression comes to the value on this recording
+module _ {bytes : List ℕ} {window : Window} (looks : Looks bytes window) where
+  -- the expression comes to the value in this window
   abbrev pub Comes : Expression → Value → Type 0
-  Comes e v = Evaluates (Shows bytes) 0 (recording .ticks) e v
+  Comes e v = Evaluates (Shows bytes) (window .from) (window .to) e v
 
   module _ (f : Expression) {ws : List ℤ} {base n p : ℕ} (s : Standing (Comes f) ws base n p) where
     -- the zones of its list may be combined
     pub operand-sound : Sound (listAt ws base n)
     operand-sound =
         subst Sound (sym (s .holds .zones))
-        (λ z m. sound-within (read-ticks read .1) (evaluates-well (Shows bytes) (omega arith) f p (s .means) .proper z m))
+        (λ z m. sound-within (looks-ticks looks .small) (evaluates-well (Shows bytes) (looks-ticks looks .forward) f p (s .means) .proper z m))
 
     -- and its rounds are few
     pub operand-rounds : {ns : List ℕ} {channels i d : ℕ} → Planted ns channels i d f → d ≤ 16 → p ≤ most-rounds
     operand-rounds t h =
-        let a = read-ticks read in
-        rounds-few (Shows bytes) {from = 0} {to = recording .ticks} (omega arith) f (s .list) p (omega (arith, t .shallow)) (omega arith) (s .means)
+        rounds-few (Shows bytes) {from = window .from} {to = window .to} (looks .some) f (s .list) p (omega (arith, t .shallow)) (omega (arith, looks-ticks looks .small)) (s .means)
 
-  -- the channels have room in a byte
-  pub few-channels : recording .channels ≤ 16
-  few-channels = rw (read-numbers read) (read-headed read .few)
+  -- so a value is as the operators with one operand ask for it, and as those with two ask for the right one
+  module _ (f : Expression) (ws : List ℤ) (base : ℕ) {ns : List ℕ} {channels i d : ℕ} (planted : Planted ns channels i d f) (shallow : d ≤ 16) where
+    pub came-only : base + 3 * slot-words ≤ length ws → (o : Evaluated) → EvaluatedAs (Comes f) ws base o → Came Ready ws base o
+    came-only room (Listed n p) s = (record { few = s .holds .few; room = room; sound = operand-sound f s }, operand-rounds f s planted shallow)
+    came-only room Overflow s = tt
+
+    pub came-right : base + slot-words ≤ length ws → (o : Evaluated) → EvaluatedAs (Comes f) ws base o → Came Source ws base o
+    came-right room (Listed n p) s = (record { few = s .holds .few; room = room; sound = operand-sound f s }, operand-rounds f s planted shallow)
+    came-right room Overflow s = tt
+
+  -- the left list is still there when the right one is finished
+  module _ (f : Expression) {us : List ℤ} (vs : List ℤ) {base n p size : ℕ} (s : Standing (Comes f) us base n p) (k : Kept (base + slot-words) size us vs) where
+    left-there : listAt vs base n ≡ listAt us base n
+    left-there = listAt-kept base n k (inl (omega (arith, s .holds .few)))
+
+    pub left-ready : base + 3 * slot-words ≤ length us → Ready vs base n
+    left-ready room = record { few = s .holds .few; room = roomy k room; sound = subst Sound (sym left-there) (operand-sound f s) }
 
   -- ---- no operand
 
@@ -66,20 +121,20 @@ module _ {bytes : List ℕ} {recording : Dimensions} (read : ReadAs bytes record
   point-done is ws base r a = subst (λ (x : Expression). EvaluatedAs (Comes x) ws base r) (sym is) a
 
   pub letter-done : {e : Expression} (s : Sign) (k : ℕ) → e ≡ literal s k → (ws : List ℤ) (base : ℕ) {level : Level} → level ≡ levelOf s → (r : Evaluated)
-      → EvaluatedAs (Letter (Shows bytes k level) 0 (recording .ticks)) ws base r → EvaluatedAs (Comes e) ws base r
+      → EvaluatedAs (Letter (Shows bytes k level) (window .from) (window .to)) ws base r → EvaluatedAs (Comes e) ws base r
   letter-done s k is ws base l r a =
-      subst (λ (x : Expression). EvaluatedAs (Comes x) ws base r) (sym is) (subst (λ (x : Level). EvaluatedAs (Letter (Shows bytes k x) 0 (recording .ticks)) ws base r) l a)
+      subst (λ (x : Expression). EvaluatedAs (Comes x) ws base r) (sym is) (subst (λ (x : Level). EvaluatedAs (Letter (Shows bytes k x) (window .from) (window .to)) ws base r) l a)
 
   -- ---- an operator with one operand
 
   module _ {e : Expression} (f : Expression) (op : Unary) (is : e ≡ unary op f) where
-    pub one-over : Comes f overflow → Comes e overflow
-    one-over s = subst (λ (x : Expression). Comes x overflow) (sym is) (stops s)
+    one-comes : (us : List ℤ) (base : ℕ) (o : Evaluated) → EvaluatedAs (Comes f) us base o → (v : Value) → Carried (applied (window .from) (window .to) op) us base o v → Comes e v
+    one-comes us base (Listed n p) s v h = subst (λ (x : Expression). Comes x v) (sym is) (goes (s .means) (subst (λ (A : List Zone). applied (window .from) (window .to) op A p v) (s .holds .zones) h))
+    one-comes us base Overflow s v h = subst (Comes e) (sym h) (subst (λ (x : Expression). Comes x overflow) (sym is) (stops s))
 
-    pub one-done : {us : List ℤ} (ws : List ℤ) {base n p : ℕ} (r : Evaluated) → Standing (Comes f) us base n p → EvaluatedAs (applied 0 (recording .ticks) op (listAt us base n) p) ws base r
+    pub one-done : (us ws : List ℤ) (base : ℕ) (o r : Evaluated) → EvaluatedAs (Comes f) us base o → EvaluatedAs (Carried (applied (window .from) (window .to) op) us base o) ws base r
         → EvaluatedAs (Comes e) ws base r
-    one-done ws {p = p} r s a =
-        evaluated-map _ _ _ _ (λ v h. subst (λ (x : Expression). Comes x v) (sym is) (goes (s .means) (subst (λ (A : List Zone). applied 0 (recording .ticks) op A p v) (s .holds .zones) h))) r a
+    one-done us ws base o r s a = evaluated-map _ _ ws base (one-comes us base o s) r a
 
   -- ---- an operator with two operands
 
@@ -90,11 +145,14 @@ module _ {bytes : List ℕ} {recording : Dimensions} (read : ReadAs bytes record
     pub two-over-left : Comes f overflow → Comes e overflow
     two-over-left s = two-come overflow (stops s)
 
-    pub two-over-right : {us : List ℤ} {base n p : ℕ} → Standing (Comes f) us base n p → Comes g overflow → Comes e overflow
-    two-over-right s t = two-come overflow (goes (s .means) (stops t))
+    module _ {us : List ℤ} (vs : List ℤ) {base n p size : ℕ} (s : Standing (Comes f) us base n p) (k : Kept (base + slot-words) size us vs) where
+      abbrev Next : List Zone → ℕ → Value → Type 0
+      Next B q v = v ≡ ended (joinList op (listAt vs base n) B) (p + q)
 
-    -- the left list is still there when the right one is finished
-    pub two-done : {us vs : List ℤ} (ws : List ℤ) {base at n m p q : ℕ} (r : Evaluated) → Standing (Comes f) us base n p → listAt vs base n ≡ listAt us base n → Standing (Comes g) vs at m q
-        → EvaluatedAs (λ v. v ≡ ended (joinList op (listAt vs base n) (listAt vs at m)) (p + q)) ws base r → EvaluatedAs (Comes e) ws base r
-    two-done ws {p = p} {q = q} r s k t a =
-        evaluated-map _ _ _ _ (λ v h. two-come v (goes (s .means) (goes (t .means) (h ∙ (λ i. ended (joinList op ((k ∙ s .holds .zones) i) (t .holds .zones i)) (p + q)))))) r a
+      two-comes : (o : Evaluated) → EvaluatedAs (Comes g) vs (base + slot-words) o → (v : Value) → Carried Next vs (base + slot-words) o v → Comes e v
+      two-comes (Listed m q) t v h =
+          two-come v (goes (s .means) (goes (t .means) (h ∙ (λ i. ended (joinList op ((left-there f vs s k ∙ s .holds .zones) i) (t .holds .zones i)) (p + q)))))
+      two-comes Overflow t v h = subst (Comes e) (sym h) (two-come overflow (goes (s .means) (stops t)))
+
+      pub two-done : (ws : List ℤ) (o r : Evaluated) → EvaluatedAs (Comes g) vs (base + slot-words) o → EvaluatedAs (Carried Next vs (base + slot-words) o) ws base r → EvaluatedAs (Comes e) ws base r
+      two-done ws o r t a = evaluated-map _ _ ws base (two-comes o t) r a

@@ -1,8 +1,5 @@
-pub mod Strict
-pub mod Meaning
-pub mod Evaluation
-pub mod Members
-pub mod Totals
-pub mod Standings
+pub mod Windows
+pub mod Rounds
+pub mod Puts
 pub mod Letters
 pub mod Evaluator

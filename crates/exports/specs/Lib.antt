@@ -1,1 +1,2 @@
+-- What the contracts of `exports` cite: definitions alone.
 pub mod Exports

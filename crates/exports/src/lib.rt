@@ -1,12 +1,15 @@
-// The finder for programs in other languages: functions on numbers and slices alone.
+// The finder for programs in other languages: its calls on numbers and slices alone, with what `finder` promises of them.
 ghost use mathlib.Core.Path.{_≡_};
 ghost use Prim.Native.Nat.{_≤_, _<_};
 ghost use lib.ListN.{length};
 ghost use Rattle.finder.specs.Outcome.{frontOf};
 ghost use Rattle.exports.specs.Exports.{Called, Uncalled};
 
+// What no refusal has for its number: no call was made.
+const NO_CALL: u32 = 4_294_967_295;
+
 // `finder::find`, with its number as the answer and its zones and rounds in the first two counts. Where there is no room
-// for two counts no call is made, and the answer is the largest number, which no refusal has.
+// for two counts no call is made, and the answer says so.
 #[no_mangle]
 pub extern "C" fn zikpasho_find(
     recording: &[u8],
@@ -19,7 +22,7 @@ pub extern "C" fn zikpasho_find(
     ensures none { λ r. ⌜ (length (now (counts .entry)) < 2 → Uncalled (now (answer .entry)) (now (work .entry)) (now (counts .entry)) r (now (answer .exit)) (now (work .exit)) (now (counts .exit))) ⌝ }
 {
     if counts.len() < 2 {
-        return 4_294_967_295;
+        return NO_CALL;
     }
     let outcome = finder::find(recording, drill, answer, work);
     let told = outcome.returned();

@@ -1,15 +1,16 @@
--- The theorems that upper crates cite. Assumes nothing.
+-- What an evaluator relies on: planted nodes have planted operands, with less depth left, and ranges in order.
 use mathlib.Core.Path.{_≡_, refl}
 use mathlib.Core.List.{List, _++_, List·Memᴰ, List·Memᴰ·head, List·Memᴰ·tail, Memᴰ·append-left, Memᴰ·append-right}
 use mathlib.Core.Logic.{inl, inr}
 use Prim.Native.Nat.{ℕ, suc, _-_, _<_, _≤_, max}
 use native.Mathlib.Omega.{arith}
-use lib.ListN.{length}
 use Rattle.expression.specs.declared.Range.{Range}
 use Rattle.expression.specs.declared.Upper.{Upper}
 use Rattle.expression.specs.declared.Upper.the-variants.{Endless, UpTo}
+use Rattle.expression.specs.declared.Node.{Node}
+use Rattle.expression.specs.declared.Node.the-variants.{Epsilon, Literal, Infix, Applied}
 use Rattle.expression.specs.Expression.{Expression, epsilon, literal, join, Star, Band, unary, depth, letters, ranges}
-use Rattle.expression.specs.Refusal.{Wrong, wrong-length, wrong-letter, wrong-range, too-deep, Refused, Accepted}
+use Rattle.expression.specs.Refusal.{Wrong, wrong-letter, wrong-range, too-deep, Accepted}
 use Rattle.expression.specs.Stored.{
   nodeAt,
   Stored,
@@ -18,34 +19,7 @@ use Rattle.expression.specs.Stored.{
   stored-join,
   stored-unary,
 }
-use Rattle.expression.specs.Planted.{Planted, Operands}
-use Rattle.expression.proofs.Complete.{unique}
-
--- THE ANSWER
-
--- No text is refused by two numbers.
-pub one-refusal : {text : List ℕ} {channels m n : ℕ} → Refused text channels m → Refused text channels n → m ≡ n
-one-refusal {m = m} {n = n} p q =
-    let a : m < n → ⊥ = λ h. q .first m h (p .holds) in
-    let b : n < m → ⊥ = λ h. p .first n h (q .holds) in
-    omega arith
-
--- An accepted text is not refused.
-pub accepted-stands : {text : List ℕ} {channels n : ℕ} {e : Expression} → Accepted text channels e → Refused text channels n → ⊥
-accepted-stands p q = p .none _ (q .holds)
-
--- A text is accepted as one expression.
-pub one-expression : {text : List ℕ} {channels : ℕ} {e f : Expression} → Accepted text channels e → Accepted text channels f → e ≡ f
-one-expression p q = unique (p .form) (q .form)
-
--- An accepted text has 1 to 255 bytes.
-pub accepted-length : {text : List ℕ} {channels : ℕ} {e : Expression} → Accepted text channels e → (0 < length text) × (length text ≤ 255)
-accepted-length {text} p =
-    let a : length text ≡ 0 → ⊥ = λ h. p .none 4 (wrong-length (inl h)) in
-    let b : 255 < length text → ⊥ = λ h. p .none 4 (wrong-length (inr h)) in
-    (omega arith, omega arith)
-
--- THE STORED TREE
+use Rattle.expression.specs.Planted.{Planted, Right}
 
 -- The root of an accepted text is planted, with a depth of 16 left.
 pub root-planted : {text ns : List ℕ} {channels n : ℕ} {e : Expression} → Accepted text channels e → Stored ns n e → Planted ns channels n 16 e
@@ -68,6 +42,13 @@ depth-some (unary u e) = omega arith
 -- Where a node is planted, some depth is left.
 pub planted-some : {ns : List ℕ} {channels n d : ℕ} {e : Expression} → Planted ns channels n d e → 0 < d
 planted-some {e = e} p = omega (arith, p .shallow, depth-some e)
+
+-- what a node says of its expression, its operands being no deeper than d
+abbrev pub Operands : List ℕ → ℕ → ℕ → Expression → Node → Type 0
+Operands ns channels d e Epsilon = e ≡ epsilon
+Operands ns channels d e (Literal s k) = (e ≡ literal s k) × (k < channels)
+Operands ns channels d e (Infix j i k) = (f : Expression) × (g : Expression) × (e ≡ join j f g) × Planted ns channels i d f × Planted ns channels k d g
+Operands ns channels d e (Applied u i) = (f : Expression) × (e ≡ unary u f) × Right u × Planted ns channels i d f
 
 -- one operand, and two
 one : {ns : List ℕ} {channels i d : ℕ} (f : Expression) → Stored ns i f → suc (depth f) ≤ d → ((k : ℕ) → List·Memᴰ k (letters f) → k < channels)
@@ -95,8 +76,7 @@ made (stored-unary {u = Band q} {e = f} w a x) h k r = rw w (f, refl, r q (List�
 pub operands : {ns : List ℕ} {channels n d : ℕ} {e : Expression} → Planted ns channels n d e → Operands ns channels (d - 1) e (nodeAt ns n)
 operands p = made (p .stored) (p .shallow) (p .known) (p .right)
 
--- RANGES
-
+-- the bounds of a range that is not wrong
 abbrev pub InOrder : ℕ → Upper → Type 0
 InOrder lo Endless = Unit {0}
 InOrder lo (UpTo hi) = (lo ≤ hi) × (hi ≤ 1000000)

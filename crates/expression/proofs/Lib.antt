@@ -1,11 +1,2 @@
-pub mod Text
-pub mod Sound
-pub mod Steps
-pub mod Complete
 pub mod Nodes
-pub mod Checks
-pub mod Numbers
-pub mod Additions
-pub mod Parses
 pub mod Laws
-pub mod Examples

@@ -1,9 +1,9 @@
--- Laws of the node buffer. Assumes nothing.
+-- The node buffer: what a written node leaves as it was, and that what is stored before it stays.
 use mathlib.Core.Path.{_≡_, refl, _∙_}
 use mathlib.Core.List.{List}
 use Prim.Native.Nat.{ℕ, _+_, _*_, _<_, _≤_}
 use native.Mathlib.Omega.{arith}
-use lib.ListN.{length, set, length-set}
+use lib.ListN.{length, getD, set, length-set}
 use lib.Seq.{getD-set-same, getD-set-other}
 use Rattle.expression.specs.declared.Node.{Node}
 use Rattle.expression.specs.Expression.{Expression}
@@ -15,8 +15,9 @@ use Rattle.expression.specs.Stored.{
   stored-literal,
   stored-join,
   stored-unary,
+  FrontKept,
+  Placed,
 }
-use Rattle.expression.specs.Readers.{FrontKept, Placed}
 
 pub kept-refl : (m : ℕ) (ns : List ℕ) → FrontKept m ns ns
 kept-refl m ns = record { kept = λ k l. refl }
@@ -53,13 +54,10 @@ stores ns {i} {n} op x y z e h d =
     rw e
     (record {
       placed = simp (getD-set-other, getD-set-same) d;
-      others =
-          record {
-            kept = λ k l.
-                let p : k ≡ n * 4 → ⊥ = omega arith in
-                let q : k ≡ n * 4 + 1 → ⊥ = omega arith in
-                let r : k ≡ n * 4 + 2 → ⊥ = omega arith in
-                let s : k ≡ n * 4 + 3 → ⊥ = omega arith in
-                simp getD-set-other;
-          };
+      front = record { kept = λ k l. others k (omega arith) (omega arith) (omega arith) (omega arith) };
+      behind = λ k l. others k (omega arith) (omega arith) (omega arith) (omega arith);
     })
+  where
+    others : (k : ℕ) → (k ≡ n * 4 → ⊥) → (k ≡ n * 4 + 1 → ⊥) → (k ≡ n * 4 + 2 → ⊥) → (k ≡ n * 4 + 3 → ⊥)
+        → getD (set (set (set (set ns (n * 4) op) (n * 4 + 1) x) (n * 4 + 2) y) (n * 4 + 3) z) k 0 ≡ getD ns k 0
+    others k p q r s = simp getD-set-other

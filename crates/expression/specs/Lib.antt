@@ -3,6 +3,3 @@ pub mod Grammar
 pub mod Refusal
 pub mod Stored
 pub mod Planted
-pub mod Parsing
-pub mod Descent
-pub mod Readers

@@ -2,10 +2,10 @@
 // for each the number of its refusal, or 0 and its tree with every operator before its operands.
 use expression::Join;
 use expression::Node;
-use expression::Parsed;
 use expression::Sign;
 use expression::Unary;
 use expression::Upper;
+use parser::Parsed;
 
 fn print(text: &[u8]) {
     io::write_all(1, text);
@@ -80,7 +80,7 @@ fn print_tree(nodes: &[u32], n: u32, depth: u32) {
 
 fn print_answer(text: &[u8], channels: usize) {
     let mut nodes = [0u32; 1020];
-    let answer = expression::parse(text, channels, &mut nodes);
+    let answer = parser::parse(text, channels, &mut nodes);
     match answer {
         Parsed::Root(root) => {
             print(b"0 ");

@@ -8,8 +8,8 @@ use native.Mathlib.Omega.{arith}
 use lib.IntN.{ℤ, pos}
 use lib.ListN.{length, set, take, drop, replicate, length-replicate, replicate-append-replicate, length-drop}
 use lib.Seq.{take-suc, drop-cons, length-take-le, ext-getD, getD-drop}
-use Rattle.words.specs.Words.{word}
-use Rattle.words.proofs.Words.{zone-words}
+use Rattle.words.specs.Words.{zone-words, word}
+use Rattle.words.proofs.Words.{codes-read}
 use Rattle.list.specs.Slots.{listAt, Kept}
 use Rattle.finder.specs.Outcome.{room, words, fronted, zeroed, cleared}
 
@@ -78,11 +78,11 @@ six ws a h =
     cc
 
 -- the words of the zones of a list are those that hold it
-pub words-at : (ws : List ℤ) (base n : ℕ) → base + n * 6 ≤ length ws → words (listAt ws base n) ≡ take (n * 6) (drop base ws)
+pub words-at : (ws : List ℤ) (base n : ℕ) → base + n * zone-words ≤ length ws → words (listAt ws base n) ≡ take (n * zone-words) (drop base ws)
 unfolding words listAt
 words-at ws base zero h = refl
 words-at ws base (suc n) h =
-    let e : suc n * 6 ≡ suc (suc (suc (suc (suc (suc (n * 6)))))) = omega arith in
-    (λ i. zone-words ws base i ++ words-at ws (base + 6) n (omega arith) i)
-    ∙ sym (ap (λ (l : List ℤ). take (suc (suc (suc (suc (suc (suc (n * 6))))))) l) (six ws base (omega arith)))
+    let e : suc n * zone-words ≡ suc (suc (suc (suc (suc (suc (n * zone-words)))))) = omega arith in
+    (λ i. codes-read ws base i ++ words-at ws (base + zone-words) n (omega arith) i)
+    ∙ sym (ap (λ (l : List ℤ). take (suc (suc (suc (suc (suc (suc (n * zone-words))))))) l) (six ws base (omega arith)))
     ∙ ap (λ (k : ℕ). take k (drop base ws)) (sym e)

@@ -1,33 +1,47 @@
 -- What the demands rest on: the zones and the rounds of a finished list, of a recording and a drill, and of a call.
 use mathlib.Core.Path.{_≡_, refl, sym, ap, subst, _∙_}
 use mathlib.Core.Logic.{⊎-elim}
-use mathlib.Core.List.{List, [], _∷_, _++_, List·Memᴰ·head, List·Memᴰ·tail, Memᴰ·append-right as append-right}
+use mathlib.Core.List.{List, [], _∷_, _++_, List·Memᴰ, List·Memᴰ·head, List·Memᴰ·tail, Memᴰ·append-right as append-right}
 use Prim.Native.Nat.{ℕ, _*_, _≤_, _<_}
 use native.Mathlib.Decide.{decLe}
 use native.Mathlib.Omega.{arith}
 use lib.IntN.{ℤ}
 use lib.ListN.{length}
 use Rattle.zone.specs.declared.Zone.{Zone}
-use Rattle.zone.proofs.Laws.{tight-member}
+use Rattle.zone.specs.Zone.{Tight, Includes}
+use Rattle.zone.proofs.Laws.{tight-member, contains-members}
+use Rattle.words.specs.Words.{zone-words}
+use Rattle.list.proofs.Antichain.{Antichain}
 use Rattle.list.specs.Slots.{listAt}
-use Rattle.recording.specs.Reading.{ticks, channels, Headed}
+use Rattle.recording.specs.Reading.{ticks, channels, RecordingCause, wrong-head}
 use Rattle.recording.specs.Levels.{Shows}
 use Rattle.recording.proofs.Rounding.{tick-range}
 use Rattle.expression.specs.Expression.{Expression}
 use Rattle.expression.specs.Refusal.{Accepted, DrillCause, wrong-length, no-form, wrong-letter, wrong-range, too-deep}
-use Rattle.expression.proofs.Complete.{unique}
-use Rattle.expression.proofs.Parses.{answered}
-use Rattle.evaluation.specs.Lists.{value, overflow, Value, repeated, RoundsOf, Sum}
-use Rattle.finder.specs.Outcome.{Outcome, RecordingLength, RecordingHead, RecordingChange, DrillLength, DrillForm, DrillLetter, DrillRange, DrillDepth, WorkShort, Overflow, AnswerShort, Finished, Comes, CallAs, CallAs.refused, CallAs.accepted, words, fronted, frontOf, BothKept, AnswerKept, Delivered, BuffersAs, FindAs}
+use Rattle.parser.proofs.Complete.{unique}
+use Rattle.parser.proofs.Parses.{answered}
+use Rattle.meaning.specs.Lists.{value, overflow, Value, repeated, RoundsOf, Sum}
+use Rattle.finder.specs.Causes.{CallAs.refused, CallAs.accepted}
+use Rattle.finder.specs.Outcome.{Outcome, RecordingHead, DrillLength, DrillForm, DrillLetter, DrillRange, DrillDepth, WorkShort, Overflow, AnswerShort, Finished, Returned, returned, Comes, largest, CallAs, words, fronted, frontOf, Left, both, answer-buffer, delivered, leaves, LeftAs, BuffersAs, FindAs}
 use Rattle.finder.specs.Demands.{Exact, Total, NoInputCause}
-use Rattle.evaluation.proofs.Evaluation.{evaluates-well, evaluates-exists}
-use Rattle.evaluation.proofs.Members.{members}
-use Rattle.evaluation.proofs.Totals.{evaluates-sum, sum-mem, sum-unique, turns-unique, turns-bound, turns-pieces}
-use Rattle.finder.proofs.Causes.{recording-finite, comes-unique, call-unique, number-none}
-use Rattle.finder.proofs.Turned.{recordings, drills}
+use Rattle.meaning.proofs.Evaluation.{evaluates-well, evaluates-exists}
+use Rattle.meaning.proofs.Members.{members}
+use Rattle.meaning.proofs.Totals.{evaluates-sum, sum-mem, sum-unique, turns-unique, turns-bound, turns-pieces}
+use Rattle.finder.proofs.Causes.{call-unique, number-none}
+use Rattle.finder.proofs.Comes.{recording-finite, comes-unique, finishes-once}
+use Rattle.finder.proofs.Outcomes.{recordings, drills}
 use Rattle.finder.proofs.Answered.{front-words, list-words}
 
 -- ---- zones
+
+-- None of the zones of an antichain lies inside another, by their members.
+includes-none : {z w : Zone} (A B C : List Zone) → ((v : Zone) → List·Memᴰ v (A ++ (z ∷ (B ++ (w ∷ C)))) → Tight v) → Antichain (A ++ (z ∷ (B ++ (w ∷ C))))
+    → (¬ Includes z w) × (¬ Includes w z)
+includes-none (a ∷ A) B C tight h = includes-none A B C (λ v m. tight v (List·Memᴰ·tail m)) (h .1)
+includes-none {z} {w} [] B C tight h =
+    let m = append-right B (List·Memᴰ·head refl) in
+    let n = h .0 w m in
+    (λ i. n .1 (contains-members z (tight w (List·Memᴰ·tail m)) .1 i), λ i. n .0 (contains-members w (tight z (List·Memᴰ·head refl)) .1 i))
 
 -- In the finished list lie exactly the satisfying stretches.
 pub comes-exact : {bytes text : List ℕ} {L : List Zone} {rounds : ℕ} → Comes bytes text (value L rounds) → Exact bytes text L
@@ -39,23 +53,25 @@ comes-exact {bytes} {rounds = rounds} c =
       exact = members (Shows bytes) (recording-finite bytes 0 (ticks bytes)) (omega arith) (c .drill) rounds (c .evaluates);
       proper = w .proper;
       some = λ z m. tight-member (w .proper z m .tight);
-      apart = w .antichain;
+      apart = λ A B C e. includes-none A B C (λ v m. w .proper v (rw e m) .tight) (rw e at (w .antichain));
     }
 
 module _ {bytes text : List ℕ} {answer work answer′ work′ : List ℤ} {zones rounds : ℕ} (h : FindAs bytes text answer work (Finished zones rounds) answer′ work′) where
-  roomy : length (h .buffers .list) * 6 ≤ length answer
+  roomy : length (h .buffers .finishes .list) * zone-words ≤ length answer
   roomy =
-      let none = number-none (h .outcome) .0 refl AnswerShort (append-right (recordings ++ (drills ++ (WorkShort ∷ Overflow ∷ []))) (List·Memᴰ·head refl)) in
-      let long : ¬ (length answer < length (h .buffers .list) * 6) = λ q. none (h .buffers .list, rounds, h .buffers .comes, q) in
+      let f = h .buffers .finishes in
+      let none = number-none (λ _ _ c. c) (h .outcome) .0 refl AnswerShort (append-right (recordings ++ (drills ++ (WorkShort ∷ Overflow ∷ []))) (List·Memᴰ·head refl)) in
+      let long : ¬ (length answer < length (f .list) * zone-words) = λ q. none (f .list, rounds, f .means, q) in
       omega arith
 
   -- After an accepted call, told its number of zones, the front holds exactly the words of the listed zones.
   pub front-call : (L : List Zone) × Comes bytes text (value L rounds) × (length L ≡ zones) × (frontOf answer′ zones ≡ words L)
   front-call =
-      let f = front-words (h .buffers .list) answer roomy in
-      let e = h .buffers .count in
+      let l = h .buffers .finishes in
+      let f = front-words (l .list) answer roomy in
+      let e = l .count in
       let a = h .buffers .answer-filled in
-      (h .buffers .list, h .buffers .comes, e, cc)
+      (l .list, l .means, e, cc)
 
   -- And in the zones that are read back from that front lie exactly the satisfying stretches.
   pub call-exact : Exact bytes text (listAt (frontOf answer′ zones) 0 zones)
@@ -70,8 +86,8 @@ module _ {bytes text : List ℕ} {answer work answer′ work′ : List ℤ} {zon
 -- ---- rounds
 
 -- some ticks, where the head is not wrong
-some-ticks : {bytes : List ℕ} → ¬ ¬ Headed bytes → 0 < ticks bytes
-some-ticks {bytes} n = elim (decLe 1 (ticks bytes)) [ yes h ↦ h | no h ↦ absurd (n (λ d. h (tick-range (d .long) (d .short) .0))) ]
+some-ticks : {bytes : List ℕ} → ¬ RecordingCause largest bytes 2 → 0 < ticks bytes
+some-ticks {bytes} n = elim (decLe 1 (ticks bytes)) [ yes h ↦ h | no h ↦ absurd (n (wrong-head (λ d. h (tick-range (d .long) (d .short) .0)))) ]
 
 -- The rounds of every `*` written, and their sum.
 pub comes-bounded : {bytes text : List ℕ} {L : List Zone} {rounds : ℕ} → 0 < ticks bytes → Comes bytes text (value L rounds) → Total bytes text rounds
@@ -122,42 +138,25 @@ inputs-bounded {bytes} {text} none = ⊎-elim (λ a. given (a .0) (a .1)) (λ r.
 
 -- And what an accepted call reports is that total.
 pub call-bounded : {bytes text : List ℕ} {answer work : ℕ} {zones rounds : ℕ} → CallAs bytes text answer work (Finished zones rounds) → Total bytes text rounds
-call-bounded (accepted none comes count) = comes-bounded (some-ticks (none RecordingHead (List·Memᴰ·tail (List·Memᴰ·head refl)))) comes
+call-bounded (accepted none f) = comes-bounded (some-ticks (none RecordingHead (List·Memᴰ·tail (List·Memᴰ·head refl)))) (f .means)
 call-bounded (refused f) = absurd (f .holds)
 
 -- ---- buffers
 
-kept-unique : {answer work a w b v : List ℤ} → BothKept answer work a w → BothKept answer work b v → (a ≡ b) × (w ≡ v)
-kept-unique p q = (p .answer-kept ∙ sym (q .answer-kept), p .work-kept ∙ sym (q .work-kept))
-
-cleared-unique : {answer work a w b v : List ℤ} → AnswerKept answer work a w → AnswerKept answer work b v → (a ≡ b) × (w ≡ v)
-cleared-unique p q = (p .answer-kept ∙ sym (q .answer-kept), p .work-cleared ∙ sym (q .work-cleared))
-
-module _ (bytes text : List ℕ) (answer work a w b v : List ℤ) where
-  delivered-unique : {zones rounds : ℕ} → Delivered bytes text zones rounds answer work a w → Delivered bytes text zones rounds answer work b v → (a ≡ b) × (w ≡ v)
-  delivered-unique p q =
-      let c = comes-unique (p .comes) (q .comes) in
-      let e : p .list ≡ q .list = cc in
-      (p .answer-filled ∙ ap (λ (L : List Zone). fronted (words L) answer) e ∙ sym (q .answer-filled), p .work-cleared ∙ sym (q .work-cleared))
-
-  buffers-unique : (o : Outcome) → BuffersAs bytes text o answer work a w → BuffersAs bytes text o answer work b v → (a ≡ b) × (w ≡ v)
-  buffers-unique RecordingLength p q = kept-unique p q
-  buffers-unique RecordingHead p q = kept-unique p q
-  buffers-unique RecordingChange p q = kept-unique p q
-  buffers-unique DrillLength p q = kept-unique p q
-  buffers-unique DrillForm p q = kept-unique p q
-  buffers-unique DrillLetter p q = kept-unique p q
-  buffers-unique DrillRange p q = kept-unique p q
-  buffers-unique DrillDepth p q = kept-unique p q
-  buffers-unique WorkShort p q = kept-unique p q
-  buffers-unique Overflow p q = cleared-unique p q
-  buffers-unique AnswerShort p q = cleared-unique p q
-  buffers-unique (Finished zones rounds) p q = delivered-unique p q
+-- What is left is one thing, whichever entry of the column it is.
+left-unique : (bytes text : List ℕ) (answer work a w b v : List ℤ) (r : Returned) (l : Left)
+    → LeftAs (Comes bytes text) r l answer work a w → LeftAs (Comes bytes text) r l answer work b v → (a ≡ b) × (w ≡ v)
+left-unique bytes text answer work a w b v r both p q = (p .answer-kept ∙ sym (q .answer-kept), p .work-kept ∙ sym (q .work-kept))
+left-unique bytes text answer work a w b v r answer-buffer p q = (p .answer-kept ∙ sym (q .answer-kept), p .work-cleared ∙ sym (q .work-cleared))
+left-unique bytes text answer work a w b v r delivered p q =
+    let c = comes-unique (p .finishes .means) (q .finishes .means) in
+    let e : p .finishes .list ≡ q .finishes .list = cc in
+    (p .answer-filled ∙ ap (λ (L : List Zone). fronted (words L) answer) e ∙ sym (q .answer-filled), p .work-cleared ∙ sym (q .work-cleared))
 
 -- A call leaves no choice: one outcome, and one thing in each buffer.
 pub find-unique : {bytes text : List ℕ} {answer work a w b v : List ℤ} {o p : Outcome} → FindAs bytes text answer work o a w
     → FindAs bytes text answer work p b v → (o ≡ p) × (a ≡ b) × (w ≡ v)
 find-unique {bytes} {text} {answer} {work} {a} {w} {b} {v} {p = p} h k =
-    let e = call-unique (h .outcome) (k .outcome) in
-    let s = buffers-unique bytes text answer work a w b v p (subst (λ (q : Outcome). BuffersAs bytes text q answer work a w) e (h .buffers)) (k .buffers) in
+    let e = call-unique finishes-once (h .outcome) (k .outcome) in
+    let s = left-unique bytes text answer work a w b v (returned p) (leaves p) (subst (λ (q : Outcome). BuffersAs bytes text q answer work a w) e (h .buffers)) (k .buffers) in
     (e, s .0, s .1)

@@ -1,32 +1,48 @@
--- A call has no two outcomes, and its number is exactly that of the first cause.
+-- The first cause of any list of causes: a call has no two outcomes, and its number is exactly that of its first cause. Laws for every call.
 use mathlib.Core.Path.{_≡_, refl, sym, subst, ap, _∙_}
 use mathlib.Core.Logic.{_↔_, _⊎_, inl, inr, ⊎-map, ⊎-elim}
-use mathlib.Core.List.{List, [], _∷_, _++_, map, List·Memᴰ, List·Memᴰ·head, List·Memᴰ·tail, Memᴰ·append-right as append-right}
+use mathlib.Core.List.{List, [], _∷_, _++_, List·Memᴰ, List·Memᴰ·head, List·Memᴰ·tail, List·Memᴰ·not-nil as not-nil, Memᴰ·append-right as append-right}
 use Prim.Native.Nat.{ℕ, _-_, _<_}
 use native.Mathlib.Omega.{arith}
 use lib.ListN.{getD}
-use Rattle.recording.specs.Reading.{ticks}
-use Rattle.recording.specs.Levels.{Shows}
-use Rattle.recording.proofs.Handed.{shows-runs, shows-held}
-use Rattle.expression.specs.Expression.{Expression}
-use Rattle.expression.proofs.Complete.{unique}
-use Rattle.evaluation.specs.Lists.{Value, Evaluates}
-use Rattle.finder.specs.Outcome.{Outcome, RecordingLength, RecordingHead, RecordingChange, DrillLength, DrillForm, DrillLetter, DrillRange, DrillDepth, WorkShort, Overflow, AnswerShort, Finished, returned, Comes, Cause, refusals, First, NoCause, CallAs, CallAs.refused, CallAs.accepted}
-use Rattle.evaluation.proofs.Evaluation.{FiniteVariability, evaluates-unique}
+use Rattle.finder.specs.Causes.{First, NoCause, CallAs, CallAs.refused, CallAs.accepted}
+use Rattle.finder.specs.Outcome.{Outcome, RecordingLength, RecordingHead, RecordingChange, DrillLength, DrillForm, DrillLetter, DrillRange, DrillDepth, WorkShort, Overflow, AnswerShort, Finished, returned}
 
--- ---- recordings
+-- ---- outcomes and their numbers
 
--- The levels of a recording are of finite variability.
-pub recording-finite : (bytes : List ℕ) (from to : ℕ) → FiniteVariability (Shows bytes) from to
-recording-finite bytes from to k level =
-    let r = shows-runs bytes k level from to in
-    (_, record { runs = r; covers = λ n a b s. shows-held bytes k level from to r n a b .0 s })
+-- the refusals of all calls, in the order of their numbers
+abbrev numbered : List Outcome
+numbered =
+    RecordingLength ∷ RecordingHead ∷ RecordingChange ∷ DrillLength ∷ DrillForm ∷ DrillLetter ∷ DrillRange ∷ DrillDepth ∷ WorkShort ∷ Overflow ∷ AnswerShort ∷ []
 
--- Recording and drill decide the value.
-pub comes-unique : {bytes text : List ℕ} {v w : Value} → Comes bytes text v → Comes bytes text w → v ≡ w
-comes-unique {bytes} {text} {v} {w} p q =
-    let e : p .drill ≡ q .drill = unique (p .form) (q .form) in
-    evaluates-unique (Shows bytes) 0 (ticks bytes) (q .drill) v w (subst (λ (d : Expression). Evaluates (Shows bytes) 0 (ticks bytes) d v) e (p .evaluates)) (q .evaluates)
+abbrev refusal-at : ℕ → Outcome
+refusal-at n = getD numbered (n - 1) (Finished 0 0)
+
+-- an outcome is a finished list, whose number is 0, or stands at its number
+known : (o : Outcome) → ((returned o .number ≡ 0) × (o ≡ Finished (returned o .zones) (returned o .rounds))) ⊎ ((0 < returned o .number) × (o ≡ refusal-at (returned o .number)))
+known RecordingLength = inr (omega arith, refl)
+known RecordingHead = inr (omega arith, refl)
+known RecordingChange = inr (omega arith, refl)
+known DrillLength = inr (omega arith, refl)
+known DrillForm = inr (omega arith, refl)
+known DrillLetter = inr (omega arith, refl)
+known DrillRange = inr (omega arith, refl)
+known DrillDepth = inr (omega arith, refl)
+known WorkShort = inr (omega arith, refl)
+known Overflow = inr (omega arith, refl)
+known AnswerShort = inr (omega arith, refl)
+known (Finished zones rounds) = inl (refl, refl)
+
+-- Number 0 is a finished list's alone ..
+pub zero-finished : (o : Outcome) → returned o .number ≡ 0 → o ≡ Finished (returned o .zones) (returned o .rounds)
+zero-finished o e = ⊎-elim (λ k. k .1) (λ k. absurd (omega (arith, k .0))) (known o)
+
+-- .. and each refusal has its own.
+own-number : (o : Outcome) → 0 < returned o .number → o ≡ refusal-at (returned o .number)
+own-number o h = ⊎-elim (λ k. absurd (omega (arith, k .0))) (λ k. k .1) (known o)
+
+pub same-number : (o p : Outcome) → 0 < returned p .number → returned o .number ≡ returned p .number → o ≡ p
+same-number o p h e = own-number o (omega arith) ∙ ap refusal-at e ∙ sym (own-number p h)
 
 -- ---- places in a list
 
@@ -39,79 +55,58 @@ order {a = a} {b = b} (u ∷ us) cs (v ∷ vs) ds e =
     let t : us ++ (a ∷ cs) ≡ vs ++ (b ∷ ds) = cc in
     ⊎-map (λ q. q) (⊎-map List·Memᴰ·tail List·Memᴰ·tail) (order us cs vs ds t)
 
--- the refusals stand in the order of their numbers, 1 to 11
-pub in-order : map (λ (o : Outcome). returned o .number) refusals ≡ 1 ∷ 2 ∷ 3 ∷ 4 ∷ 5 ∷ 6 ∷ 7 ∷ 8 ∷ 9 ∷ 10 ∷ 11 ∷ []
-in-order = refl
+-- ---- causes that do not hold
 
--- and each has its own
-numbered : (p : Outcome) → 0 < returned p .number → getD refusals (returned p .number - 1) (Finished 0 0) ≡ p
-numbered RecordingLength h = refl
-numbered RecordingHead h = refl
-numbered RecordingChange h = refl
-numbered DrillLength h = refl
-numbered DrillForm h = refl
-numbered DrillLetter h = refl
-numbered DrillRange h = refl
-numbered DrillDepth h = refl
-numbered WorkShort h = refl
-numbered Overflow h = refl
-numbered AnswerShort h = refl
-numbered (Finished zones rounds) h = absurd (omega arith)
+-- none of the causes of a list holds, one by one
+infixr 30 _also_
+pub data NoneOf (Cause : Outcome → Type 0) : List Outcome → Type 0 where
+  none : NoneOf Cause []
+  _also_ : {o : Outcome} {os : List Outcome} → ¬ Cause o → NoneOf Cause os → NoneOf Cause (o ∷ os)
 
-pub same-number : (o p : Outcome) → 0 < returned p .number → returned o .number ≡ returned p .number → o ≡ p
-same-number o p h e = sym (numbered o (omega arith)) ∙ ap (λ (n : ℕ). getD refusals (n - 1) (Finished 0 0)) e ∙ numbered p h
+module _ {Cause : Outcome → Type 0} where
+  pub none-of : {os : List Outcome} → NoneOf Cause os → NoCause os Cause
+  none-of none p m = absurd (not-nil m)
+  none-of (n also ns) p (List·Memᴰ·head e) = λ c. n (subst Cause e c)
+  none-of (n also ns) p (List·Memᴰ·tail m) = none-of ns p m
 
-module _ {bytes text : List ℕ} {answer work : ℕ} where
+  pub none-append : {os ps : List Outcome} → NoneOf Cause os → NoneOf Cause ps → NoneOf Cause (os ++ ps)
+  none-append none m = m
+  none-append (n also ns) m = n also none-append ns m
+
+module _ {causes : List Outcome} {Cause : Outcome → Type 0} where
   -- ---- one outcome
 
-  first-listed : {o : Outcome} → First bytes text answer work o → List·Memᴰ o refusals
-  first-listed {o} f = subst (List·Memᴰ o) (sym (f .place)) (append-right (f .earlier) (List·Memᴰ·head refl))
-
-  not-refused : {o : Outcome} → NoCause bytes text answer work → ¬ First bytes text answer work o
-  not-refused {o} n f = n o (first-listed f) (f .holds)
+  not-refused : {o : Outcome} → NoCause causes Cause → ¬ First causes Cause o
+  not-refused {o} n f = n o (subst (List·Memᴰ o) (sym (f .place)) (append-right (f .earlier) (List·Memᴰ·head refl))) (f .holds)
 
   -- There is one first cause.
-  pub first-unique : {o p : Outcome} → First bytes text answer work o → First bytes text answer work p → o ≡ p
+  pub first-unique : {o p : Outcome} → First causes Cause o → First causes Cause p → o ≡ p
   first-unique {o} {p} f g =
       ⊎-elim (λ e. e) (⊎-elim (λ m. absurd (g .none o m (f .holds))) (λ m. absurd (f .none p m (g .holds))))
       (order (f .earlier) (f .later) (g .earlier) (g .later) (sym (f .place) ∙ g .place))
 
-  -- A call has no two outcomes.
-  pub call-unique : {o p : Outcome} → CallAs bytes text answer work o → CallAs bytes text answer work p → o ≡ p
-  call-unique (refused f) (refused g) = first-unique f g
-  call-unique (refused f) (accepted n c e) = absurd (not-refused n f)
-  call-unique (accepted n c e) (refused g) = absurd (not-refused n g)
-  call-unique (accepted n c e) (accepted m d f) = let v = comes-unique c d in cc
+  module _ {Finishes : (zones rounds : ℕ) → Type 0} where
+    -- A cause that holds, where none of those before it does, is the call's outcome.
+    pub refused-at : (earlier later : List Outcome) (o : Outcome) → causes ≡ earlier ++ (o ∷ later) → NoneOf Cause earlier → Cause o
+        → CallAs causes Cause Finishes o
+    refused-at earlier later o e n c = refused (record { earlier = earlier; later = later; place = e; holds = c; none = none-of n })
 
-  -- The number returned is that of a refusal exactly where it is the first cause ..
-  pub number-first : {o : Outcome} → CallAs bytes text answer work o
-      → (p : Outcome) → 0 < returned p .number → (returned o .number ≡ returned p .number) ↔ First bytes text answer work p
-  number-first {o} c p h = (λ e. first c (same-number o p h e), λ f. ap (λ (q : Outcome). returned q .number) (call-unique c (refused f)))
-    where
-      first : {q : Outcome} → CallAs bytes text answer work q → q ≡ p → First bytes text answer work p
-      first (refused f) e = subst (First bytes text answer work) e f
-      first (accepted n d l) e = absurd (let z = subst (λ (q : Outcome). 0 < returned q .number) (sym e) h in omega arith)
+    -- A call has no two outcomes, where there is one way to finish.
+    pub call-unique : ((z r y s : ℕ) → Finishes z r → Finishes y s → Finished z r ≡ Finished y s)
+        → {o p : Outcome} → CallAs causes Cause Finishes o → CallAs causes Cause Finishes p → o ≡ p
+    call-unique once (refused f) (refused g) = first-unique f g
+    call-unique once (refused f) (accepted n d) = absurd (not-refused n f)
+    call-unique once (accepted n d) (refused g) = absurd (not-refused n g)
+    call-unique once (accepted n d) (accepted m e) = once _ _ _ _ d e
 
-  -- .. and 0 exactly where no cause holds.
-  pub number-none : {o : Outcome} → CallAs bytes text answer work o → (returned o .number ≡ 0) ↔ NoCause bytes text answer work
-  number-none (refused {o} f) = (λ e. absurd (given o (f .holds) e), λ n. absurd (not-refused n f))
-    where
-      given : (q : Outcome) → Cause bytes text answer work q → ¬ (returned q .number ≡ 0)
-      given RecordingLength c e = omega arith
-      given RecordingHead c e = omega arith
-      given RecordingChange c e = omega arith
-      given DrillLength c e = omega arith
-      given DrillForm c e = omega arith
-      given DrillLetter c e = omega arith
-      given DrillRange c e = omega arith
-      given DrillDepth c e = omega arith
-      given WorkShort c e = omega arith
-      given Overflow c e = omega arith
-      given AnswerShort c e = omega arith
-      given (Finished zones rounds) c e = c
-  number-none (accepted n c l) = (λ _. n, λ _. refl)
+    -- The number returned is that of a refusal exactly where it is the first cause ..
+    pub number-first : {o : Outcome} → CallAs causes Cause Finishes o
+        → (p : Outcome) → 0 < returned p .number → (returned o .number ≡ returned p .number) ↔ First causes Cause p
+    number-first (refused {o} f) p h = (λ e. subst (First causes Cause) (same-number o p h e) f, λ g. ap (λ (q : Outcome). returned q .number) (first-unique f g))
+    number-first (accepted n d) p h = (λ e. absurd (omega arith), λ g. absurd (not-refused n g))
 
-  -- Number 0 is a finished list's alone.
-  pub call-accepted : {o : Outcome} → CallAs bytes text answer work o → returned o .number ≡ 0 → o ≡ Finished (returned o .zones) (returned o .rounds)
-  call-accepted (refused f) e = absurd (not-refused (number-none (refused f) .0 e) f)
-  call-accepted (accepted n c l) e = refl
+    -- .. and 0 exactly where no cause holds; a finished list is no cause.
+    pub number-none : ((zones rounds : ℕ) → ¬ Cause (Finished zones rounds)) → {o : Outcome} → CallAs causes Cause Finishes o
+        → (returned o .number ≡ 0) ↔ NoCause causes Cause
+    number-none never (refused {o} f) = (λ e. absurd (never _ _ (subst Cause (zero-finished o e) (f .holds))), λ n. absurd (not-refused n f))
+    number-none never (accepted n d) = (λ _. n, λ _. refl)

@@ -5,8 +5,9 @@ use Prim.Native.Nat.{ℕ}
 use lib.IntN.{ℤ}
 use Rattle.finder.specs.Outcome.{Outcome, Finished, returned, CallAs, FindAs}
 use Rattle.finder.specs.Demands.{Demand1, Demand2, Demand3, Total, NoInputCause}
-use Rattle.finder.proofs.Causes.{call-unique, number-first, number-none, call-accepted}
-use Rattle.finder.proofs.Turned.{call-exists}
+use Rattle.finder.proofs.Causes.{zero-finished, call-unique, number-first, number-none}
+use Rattle.finder.proofs.Comes.{finishes-once}
+use Rattle.finder.proofs.Outcomes.{call-exists}
 use Rattle.finder.proofs.Calls.{call-exact, call-bounded, inputs-bounded, total-unique, find-unique}
 
 -- ==== Of every call
@@ -14,7 +15,7 @@ use Rattle.finder.proofs.Calls.{call-exact, call-bounded, inputs-bounde
 -- Every call has an outcome, and one only.
 pub one-outcome : (bytes text : List ℕ) (answer work : ℕ)
     → (o : Outcome) × CallAs bytes text answer work o × ((p : Outcome) → CallAs bytes text answer work p → p ≡ o)
-one-outcome bytes text answer work = let c = call-exists bytes text answer work in (c .0, c .1, λ p d. call-unique d (c .1))
+one-outcome bytes text answer work = let c = call-exists bytes text answer work in (c .0, c .1, λ p d. call-unique finishes-once d (c .1))
 
 -- And it leaves one thing in each buffer.
 pub one-result : {bytes text : List ℕ} {answer work a w b v : List ℤ} {o p : Outcome} → FindAs bytes text answer work o a w → FindAs bytes text answer work p b v
@@ -30,10 +31,10 @@ one-total none = let t = inputs-bounded none in (t .0, t .1, λ n d. total-uniqu
 module _ {bytes text : List ℕ} {answer work answer′ work′ : List ℤ} {o : Outcome} (h : FindAs bytes text answer work o answer′ work′) where
   -- Demand 1: it is refused by the number of the first cause that holds, and accepted exactly where none holds.
   pub demand-1 : Demand1 bytes text answer work o answer′ work′
-  demand-1 = record { defined = h; refuses = number-first (h .outcome); accepts = number-none (h .outcome) }
+  demand-1 = record { defined = h; refuses = number-first (h .outcome); accepts = number-none (λ _ _ c. c) (h .outcome) }
 
   finished : returned o .number ≡ 0 → FindAs bytes text answer work (Finished (returned o .zones) (returned o .rounds)) answer′ work′
-  finished e = subst (λ (p : Outcome). FindAs bytes text answer work p answer′ work′) (call-accepted (h .outcome) e) h
+  finished e = subst (λ (p : Outcome). FindAs bytes text answer work p answer′ work′) (zero-finished o e) h
 
   -- Demand 2: where it is accepted, some zone read back from the front of the answer holds a stretch exactly if the stretch satisfies the
   -- drill; every zone is tight and inside 0..d, none is empty, none lies inside another.

@@ -1,69 +1,120 @@
 -- From what the steps of a call answer to the whole call.
-use mathlib.Core.Path.{_≡_, refl, ap, subst}
+use mathlib.Core.Path.{_≡_, refl, ap, subst, _∙_}
+use mathlib.Core.Bool.{Bool, true, false, cond}
 use mathlib.Core.List.{List, _++_}
-use Prim.Native.Nat.{ℕ, _<_}
+use Prim.Native.Nat.{ℕ, _*_, _≤_, _<_}
+use native.Mathlib.Omega.{arith}
+use borrow.Author.Tests.{leb-true, leb-false}
+use lib.Dec.{leb}
 use lib.IntN.{ℤ}
 use lib.ListN.{length}
-use Rattle.recording.specs.Reading.{ticks, channels, reading, ReadAs}
+use Rattle.zone.specs.declared.Zone.{Zone}
+use Rattle.words.specs.Words.{zone-words}
+use Rattle.list.specs.Slots.{Kept, listAt}
+use Rattle.recording.specs.Reading.{channels, ReadAs, ReadingAs}
 use Rattle.recording.specs.Levels.{Shows}
 use Rattle.recording.specs.declared.Dimensions.{Dimensions}
 use Rattle.recording.specs.declared.Reading.the-variants.{Recorded}
 use Rattle.recording.proofs.Refusals.{read-numbers, read-end}
 use Rattle.expression.specs.Expression.{Expression}
 use Rattle.expression.specs.Refusal.{Accepted, Refused}
-use Rattle.evaluation.specs.Lists.{Value, value, overflow, Evaluates}
-use Rattle.finder.specs.Outcome.{Outcome, RecordingLength, RecordingHead, RecordingChange, DrillLength, DrillForm, DrillLetter, DrillRange, DrillDepth, WorkShort, Overflow, AnswerShort, Finished, largest, returned, Comes, CallAs, BothKept, FindAs}
+use Rattle.values.specs.declared.Evaluated.{Evaluated}
+use Rattle.values.specs.declared.Evaluated.the-variants.{Listed, Overflow}
+use Rattle.meaning.specs.Lists.{Value, value, overflow, Evaluates}
+use Rattle.values.specs.Values.{EvaluatedAs}
+use Rattle.finder.specs.declared.Worked.{Worked}
+use Rattle.finder.specs.declared.Worked.the-variants.{WorkShort, Overflow, AnswerShort, Finished}
+use Rattle.finder.specs.Outcome.{Outcome, Finished, largest, room, words, fronted, cleared, both, leaves, returned, Comes, CallAs, FindAs}
 use Rattle.finder.specs.Demands.{Demand1, Demand2, Demand3}
-use Rattle.finder.specs.Steps.{WorkedAs}
+use Rattle.finder.specs.Steps.{InFront, comesTo, answerAfter, WorkedAs, outcomeOf}
+use Rattle.finder.proofs.Buffers.{cleared-kept}
 use Rattle.finder.proofs.Demands.{demand-1, demand-2, demand-3}
-use Rattle.finder.proofs.Turned.{NoneOf, recordings, drills, recording-call, drill-call, drill-none, work-call, overflow-call, answer-call, accepted-call}
-
-pub kept : {answer work : List ℤ} → BothKept answer work answer work
-kept = record { answer-kept = refl; work-kept = refl }
+use Rattle.finder.proofs.Outcomes.{Without, recordings, drills, recording-call, drill-call, drill-none, work-call, overflow-call, answer-call, accepted-call}
 
 -- What `find` promises of a call that has the defined outcome.
 pub promised : {bytes text : List ℕ} {answer work answer′ work′ : List ℤ} {o : Outcome} → FindAs bytes text answer work o answer′ work′
     → Demand1 bytes text answer work o answer′ work′ × (Demand2 bytes text o answer′ × Demand3 bytes text o)
 promised h = (demand-1 h, (demand-2 h, demand-3 h))
 
-module _ (bytes : List ℕ) (r : Dimensions) (read : reading largest bytes ≡ Recorded r) where
-  pub was-read : ReadAs bytes r
-  was-read = record { largest = largest; read = read }
+-- A call whose outcome leaves both buffers as they were.
+pub untouched : {bytes text : List ℕ} {answer work : List ℤ} {o : Outcome} → leaves o ≡ both → CallAs bytes text (length answer) (length work) o
+    → FindAs bytes text answer work o answer work
+untouched {bytes} {text} {answer} {work} {o} e c =
+    record { outcome = c; buffers = rw e (record { answer-kept = refl; work-kept = refl }) }
 
-  same-channels : r .channels ≡ channels bytes
+-- ---- a stored drill
+
+-- An evaluated list stands at the front of the work buffer.
+pub in-front : (comes : Value → Type 0) (r : Evaluated) (ws : List ℤ) → room ≤ length ws → EvaluatedAs comes ws 0 r → InFront r (length ws)
+in-front comes (Listed count rounds) ws enough h = omega (arith, h .holds .few)
+in-front comes Overflow ws enough h = tt
+
+-- The evaluator's answer, delivered where there is room for it, and the work buffer cleared: what the evaluator wrote is among the words that are cleared.
+pub worked : (comes : Value → Type 0) {size : ℕ} (r : Evaluated) (answer : List ℤ) {work ws answer′ work′ : List ℤ} {w : Worked} → room ≤ length work → size ≤ room
+    → EvaluatedAs comes ws 0 r → Kept 0 size work ws → w ≡ comesTo r (length answer) → answer′ ≡ answerAfter r ws answer → work′ ≡ cleared ws
+    → WorkedAs comes w answer work answer′ work′
+worked comes Overflow answer enough few h k e f g = rw e (enough, h, record { answer-kept = f; work-cleared = g ∙ cleared-kept k few })
+worked comes (Listed count rounds) answer {work} {ws} {answer′} {work′} enough few h k e f g = rw e (at (leb (count * zone-words) (length answer)) refl f)
+  where
+    at : (b : Bool) → leb (count * zone-words) (length answer) ≡ b → answer′ ≡ cond b (fronted (words (listAt ws 0 count)) answer) answer
+        → WorkedAs comes (cond b (Finished count rounds) AnswerShort) answer work answer′ work′
+    at true t q = (
+      enough,
+      leb-true (count * zone-words) (length answer) t,
+      record {
+        finishes = record { list = h .list; means = h .means; count = h .holds .count };
+        answer-filled = q ∙ ap (λ (L : List Zone). fronted (words L) answer) (h .holds .zones);
+        work-cleared = g ∙ cleared-kept k few;
+      },
+    )
+    at false t q = (
+      enough,
+      (h .list, rounds, h .means, omega (arith, leb-false (count * zone-words) (length answer) t, h .holds .count)),
+      record { answer-kept = q; work-cleared = g ∙ cleared-kept k few },
+    )
+
+-- ---- on a recording that was read
+
+module _ (bytes : List ℕ) (size : Dimensions) (read : ReadingAs largest bytes (Recorded size)) where
+  pub was-read : ReadAs bytes size
+  was-read = read .1
+
+  same-channels : size .channels ≡ channels bytes
   same-channels = ap (λ (q : Dimensions). q .channels) (read-numbers was-read)
 
-  module _ (text : List ℕ) (answer work : ℕ) where
-    none : NoneOf bytes text answer work recordings
-    none = recording-call bytes text answer work (Recorded r) read
+  module _ (text : List ℕ) (answer work : List ℤ) where
+    none : Without bytes text (length answer) (length work) recordings
+    none = recording-call bytes text (length answer) (length work) (Recorded size) read
 
-    -- a drill that is refused
-    pub drill-refused : (o : Outcome) → 0 < returned o .number → Refused text (r .channels) (returned o .number) → CallAs bytes text answer work o
-    drill-refused o h f = drill-call bytes text answer work none o h (subst (λ (c : ℕ). Refused text c (returned o .number)) same-channels f)
+    -- A drill that is refused.
+    pub drill-refused : (o : Outcome) → leaves o ≡ both → 0 < returned o .number → Refused text (size .channels) (returned o .number)
+        → FindAs bytes text answer work o answer work
+    drill-refused o e h f = untouched e (drill-call bytes text (length answer) (length work) none o h (rw same-channels at f))
 
-    ruled-out : {e : Expression} → Accepted text (r .channels) e → NoneOf bytes text answer work (recordings ++ drills)
-    ruled-out {e} a = drill-none bytes text answer work none (subst (λ (c : ℕ). Accepted text c e) same-channels a)
+    -- One that is accepted and worked out.
+    module _ {e : Expression} (a : Accepted text (size .channels) e) where
+      ruled-out : Without bytes text (length answer) (length work) (recordings ++ drills)
+      ruled-out = drill-none bytes text (length answer) (length work) none (subst (λ (c : ℕ). Accepted text c e) same-channels a)
 
-  -- a drill that is accepted and worked out
-  module _ (text : List ℕ) {e : Expression} (a : Accepted text (r .channels) e) where
-    comes : (v : Value) → Evaluates (Shows bytes) 0 (r .ticks) e v → Comes bytes text v
-    comes v h = record { drill = e; form = a .form; evaluates = subst (λ (d : ℕ). Evaluates (Shows bytes) 0 d e v) (read-end was-read) h }
+      comes : (v : Value) → Evaluates (Shows bytes) 0 (size .ticks) e v → Comes bytes text v
+      comes v h = record { drill = e; form = a .form; evaluates = subst (λ (d : ℕ). Evaluates (Shows bytes) 0 d e v) (read-end was-read) h }
 
-    pub found : (o : Outcome) {answer work answer′ work′ : List ℤ} → WorkedAs (Evaluates (Shows bytes) 0 (r .ticks) e) o answer work answer′ work′ → FindAs bytes text answer work o answer′ work′
-    found WorkShort {answer} {work} h = record { outcome = work-call bytes text (length answer) (length work) (ruled-out text (length answer) (length work) a) (h .0); buffers = h .1 }
-    found Overflow {answer} {work} h = record { outcome = overflow-call bytes text (length answer) (length work) (ruled-out text (length answer) (length work) a) (h .0) (comes overflow (h .1)); buffers = h .2 }
-    found AnswerShort {answer} {work} h = record { outcome = answer-call bytes text (length answer) (length work) (ruled-out text (length answer) (length work) a) (h .enough) (comes (value (h .list) (h .rounds)) (h .means)) (h .short); buffers = h .buffers }
-    found (Finished zones rounds) {answer} {work} h =
-        let c = comes (value (h .list) rounds) (h .means) in
-        record {
-          outcome = subst (λ (k : ℕ). CallAs bytes text (length answer) (length work) (Finished k rounds)) (h .count) (accepted-call bytes text (length answer) (length work) (ruled-out text (length answer) (length work) a) (h .enough) c (h .fits));
-          buffers = record { list = h .list; comes = c; count = h .count; answer-filled = h .answer-filled; work-cleared = h .work-cleared };
-        }
-    found RecordingLength h = absurd h
-    found RecordingHead h = absurd h
-    found RecordingChange h = absurd h
-    found DrillLength h = absurd h
-    found DrillForm h = absurd h
-    found DrillLetter h = absurd h
-    found DrillRange h = absurd h
-    found DrillDepth h = absurd h
+      pub found : (w : Worked) {answer′ work′ : List ℤ} → WorkedAs (Evaluates (Shows bytes) 0 (size .ticks) e) w answer work answer′ work′
+          → FindAs bytes text answer work (outcomeOf w) answer′ work′
+      found WorkShort h = record { outcome = work-call bytes text _ _ ruled-out (h .0); buffers = h .1 }
+      found Overflow h = record { outcome = overflow-call bytes text _ _ ruled-out (h .0) (comes overflow (h .1)); buffers = h .2 }
+      found AnswerShort h =
+          let s = h .1 in
+          record { outcome = answer-call bytes text _ _ ruled-out (h .0) (comes (value (s .0) (s .1)) (s .2)) (s .3); buffers = h .2 }
+      found (Finished zones rounds) h =
+          let f = h .2 .finishes in
+          let c = comes (value (f .list) rounds) (f .means) in
+          record {
+            outcome = subst (λ (k : ℕ). CallAs bytes text (length answer) (length work) (Finished k rounds)) (f .count)
+                (accepted-call bytes text _ _ ruled-out (h .0) c (omega (arith, h .1, f .count)));
+            buffers = record {
+              finishes = record { list = f .list; means = c; count = f .count };
+              answer-filled = h .2 .answer-filled;
+              work-cleared = h .2 .work-cleared;
+            };
+          }

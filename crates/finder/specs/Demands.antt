@@ -1,16 +1,15 @@
 -- The three demands, as the contract of a call cites them.
 use mathlib.Core.Path.{_≡_}
 use mathlib.Core.Logic.{_↔_}
-use mathlib.Core.List.{List, [], _∷_, List·Memᴰ}
+use mathlib.Core.List.{List, [], _∷_, _++_, List·Memᴰ}
 use Prim.Native.Nat.{ℕ, _+_, _-_, _≤_, _<_}
 use lib.IntN.{ℤ}
 use lib.ListN.{length}
-use Rattle.zone.specs.Time.{Time}
+use Rattle.limit.specs.Time.{Time}
 use Rattle.zone.specs.declared.Zone.{Zone}
-use Rattle.zone.specs.Zone.{In}
+use Rattle.zone.specs.Zone.{In, Includes}
 use Rattle.star.specs.Pieces.{Pieces}
 use Rattle.list.specs.Members.{Lies, AllProper}
-use Rattle.list.specs.Antichain.{Antichain}
 use Rattle.list.specs.Slots.{listAt}
 use Rattle.recording.specs.Reading.{ticks}
 use Rattle.recording.specs.Levels.{Shows}
@@ -18,8 +17,8 @@ use Rattle.recording.specs.declared.Level.{Level}
 use Rattle.expression.specs.declared.Unary.the-variants.{Star}
 use Rattle.expression.specs.Expression.{Expression, unary}
 use Rattle.expression.specs.Grammar.{Form, alternative}
-use Rattle.evaluation.specs.Satisfies.{Stretch, Satisfies}
-use Rattle.evaluation.specs.Lists.{repeated, RoundsOf, Sum}
+use Rattle.meaning.specs.Satisfies.{Stretch, Satisfies}
+use Rattle.meaning.specs.Lists.{repeated, RoundsOf, Sum}
 use Rattle.finder.specs.Outcome.{Outcome, RecordingLength, RecordingHead, RecordingChange, DrillLength, DrillForm, DrillLetter, DrillRange, DrillDepth, Overflow, returned, Cause, First, NoCause, frontOf, FindAs}
 
 -- ==== Demand 1: the outcome and both buffers are the defined ones. "Each is given when its cause holds and no earlier one does, and never
@@ -33,14 +32,14 @@ pub record Demand1 (bytes text : List ℕ) (answer work : List ℤ) (o : Outcome
 -- ==== Demand 2
 
 -- some zone of the list holds a stretch inside 0..d exactly if it satisfies the drill; every zone is tight and inside 0..d, none is empty,
--- none lies inside another
+-- none lies inside another, at whichever two places they stand
 pub record Exact (bytes text : List ℕ) (L : List Zone) : Type 0 where
   pub drill : Expression
   pub form : Form alternative text drill
   pub exact : (x y : Time) → Stretch 0 (ticks bytes) x y → Lies L x y ↔ Satisfies (Shows bytes) drill x y
   pub proper : AllProper 0 (ticks bytes) L
   pub some : (z : Zone) → List·Memᴰ z L → (x : Time) × (y : Time) × In z x y
-  pub apart : Antichain L
+  pub apart : {z w : Zone} (A B C : List Zone) → L ≡ A ++ (z ∷ (B ++ (w ∷ C))) → (¬ Includes z w) × (¬ Includes w z)
 
 -- of an accepted call: of the zones read back from the front of the answer
 abbrev pub Demand2 : (bytes text : List ℕ) → Outcome → (answer′ : List ℤ) → Type 0

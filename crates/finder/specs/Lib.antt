@@ -1,5 +1,5 @@
 -- What the contracts of `finder` cite: definitions alone.
+pub mod Causes
 pub mod Outcome
 pub mod Demands
-pub mod Text
 pub mod Steps

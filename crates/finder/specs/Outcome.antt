@@ -1,19 +1,20 @@
--- "Turned back": which outcome a call has, what it returns, and what both buffers hold afterwards.
+-- "Turned back": what each outcome returns and leaves, which one a call of `find` has, and what both buffers hold afterwards.
 use mathlib.Core.Path.{_≡_}
 use mathlib.Core.Bool.{cond}
-use mathlib.Core.List.{List, [], _∷_, _++_, List·Memᴰ}
+use mathlib.Core.List.{List, [], _∷_, _++_}
 use Prim.Native.Nat.{ℕ, _*_, _<_}
 use lib.Dec.{leb}
 use lib.IntN.{ℤ, pos}
 use lib.ListN.{length, take, drop, replicate}
 use Rattle.zone.specs.declared.Zone.{Zone}
-use Rattle.words.specs.Words.{codes}
-use Rattle.recording.specs.Reading.{ticks, channels, Sized, Headed, AllChanged}
+use Rattle.words.specs.Words.{zone-words, codes}
+use Rattle.recording.specs.Reading.{ticks, channels, RecordingCause}
 use Rattle.recording.specs.Levels.{Shows}
 use Rattle.expression.specs.Expression.{Expression}
 use Rattle.expression.specs.Grammar.{Form, alternative}
 use Rattle.expression.specs.Refusal.{DrillCause}
-use Rattle.evaluation.specs.Lists.{Value, value, overflow, Evaluates}
+use Rattle.meaning.specs.Lists.{Value, value, overflow, Evaluates}
+use Rattle.finder.specs.Causes as calls
 pub use Rattle.finder.specs.declared.Returned.{Returned}
 pub use Rattle.finder.specs.declared.Outcome.{Outcome}
 pub use Rattle.finder.specs.declared.Outcome.the-variants.{
@@ -52,6 +53,26 @@ returned Overflow = refusal 10
 returned AnswerShort = refusal 11
 returned (Finished zones rounds) = record { number = 0; zones = zones; rounds = rounds }
 
+-- ---- what is left in the buffers
+
+-- the table's column "Left as it was": both buffers, or the answer buffer, "work as below"; an accepted call delivers its list
+pub data Left : Type 0 where
+  both answer-buffer delivered : Left
+
+abbrev pub leaves : Outcome → Left
+leaves RecordingLength = both
+leaves RecordingHead = both
+leaves RecordingChange = both
+leaves DrillLength = both
+leaves DrillForm = both
+leaves DrillLetter = both
+leaves DrillRange = both
+leaves DrillDepth = both
+leaves WorkShort = both
+leaves Overflow = answer-buffer
+leaves AnswerShort = answer-buffer
+leaves (Finished zones rounds) = delivered
+
 -- ---- the causes
 
 -- the text is an expression that comes to the value on the recording, from tick 0 to d
@@ -67,14 +88,16 @@ largest = 32768
 abbrev pub room : ℕ
 room = 16384
 
+-- of a drill that comes to a list: so many answer words are too few for it
+abbrev pub NoRoom : (comes : Value → Type 0) (answer : ℕ) → Type 0
+NoRoom comes answer = (L : List Zone) × (r : ℕ) × comes (value L r) × (answer < length L * zone-words)
+
 -- the cause of each refusal, of the bytes of the recording, the text of the drill and the lengths of both buffers
 abbrev pub Cause : (bytes text : List ℕ) (answer work : ℕ) → Outcome → Type 0
--- "recording of length 0, over 32,768 or not a multiple of 8"
-Cause bytes text answer work RecordingLength = ¬ Sized largest bytes
--- "head wrong in any field"
-Cause bytes text answer work RecordingHead = ¬ Headed bytes
--- "a change wrong in any field"
-Cause bytes text answer work RecordingChange = ¬ AllChanged bytes
+-- "recording of length 0, over 32,768 or not a multiple of 8", "head wrong in any field", "a change wrong in any field"
+Cause bytes text answer work RecordingLength = RecordingCause largest bytes 1
+Cause bytes text answer work RecordingHead = RecordingCause largest bytes 2
+Cause bytes text answer work RecordingChange = RecordingCause largest bytes 3
 -- "drill of length 0 or over 255", "drill not of the form above", "a letter at or beyond the channel count", "lo or hi above 1,000,000, or lo > hi", "depth above 16"
 Cause bytes text answer work DrillLength = DrillCause text (channels bytes) 4
 Cause bytes text answer work DrillForm = DrillCause text (channels bytes) 5
@@ -86,7 +109,7 @@ Cause bytes text answer work WorkShort = work < room
 -- "a put would leave a list of 129 zones"
 Cause bytes text answer work Overflow = Comes bytes text overflow
 -- "answer buffer under 6 words a zone"
-Cause bytes text answer work AnswerShort = (L : List Zone) × (r : ℕ) × Comes bytes text (value L r) × (answer < length L * 6)
+Cause bytes text answer work AnswerShort = NoRoom (Comes bytes text) answer
 Cause bytes text answer work (Finished zones rounds) = ⊥
 
 -- "Checked in the order of the numbers"
@@ -94,24 +117,22 @@ abbrev pub refusals : List Outcome
 refusals =
     RecordingLength ∷ RecordingHead ∷ RecordingChange ∷ DrillLength ∷ DrillForm ∷ DrillLetter ∷ DrillRange ∷ DrillDepth ∷ WorkShort ∷ Overflow ∷ AnswerShort ∷ []
 
--- "Each is given when its cause holds and no earlier one does": o's place in the list of causes
-pub record First (bytes text : List ℕ) (answer work : ℕ) (o : Outcome) : Type 0 where
-  pub earlier : List Outcome
-  pub later : List Outcome
-  pub place : refusals ≡ earlier ++ (o ∷ later)
-  pub holds : Cause bytes text answer work o
-  pub none : (p : Outcome) → List·Memᴰ p earlier → ¬ Cause bytes text answer work p
+-- "it then returns .. the number of zones and the total of rounds": those of the list to which the drill comes
+pub record Finishes (comes : Value → Type 0) (zones rounds : ℕ) : Type 0 where
+  pub list : List Zone
+  pub means : comes (value list rounds)
+  pub count : length list ≡ zones
 
--- no cause holds
+-- ---- which outcome a call of `find` has: the first cause of its list, or no cause and the finished list
+
+abbrev pub First : (bytes text : List ℕ) (answer work : ℕ) → Outcome → Type 0
+First bytes text answer work = calls.First refusals (Cause bytes text answer work)
+
 abbrev pub NoCause : (bytes text : List ℕ) (answer work : ℕ) → Type 0
-NoCause bytes text answer work = (p : Outcome) → List·Memᴰ p refusals → ¬ Cause bytes text answer work p
+NoCause bytes text answer work = calls.NoCause refusals (Cause bytes text answer work)
 
--- ---- which outcome a call has: the first cause; "A drill is accepted where no cause holds", with its list and its rounds
-
-pub data CallAs (bytes text : List ℕ) (answer work : ℕ) : Outcome → Type 0 where
-  refused : {o : Outcome} → First bytes text answer work o → CallAs bytes text answer work o
-  accepted : {zones rounds : ℕ} {L : List Zone} → NoCause bytes text answer work → Comes bytes text (value L rounds) → length L ≡ zones
-      → CallAs bytes text answer work (Finished zones rounds)
+abbrev pub CallAs : (bytes text : List ℕ) (answer work : ℕ) → Outcome → Type 0
+CallAs bytes text answer work = calls.CallAs refusals (Cause bytes text answer work) (Finishes (Comes bytes text))
 
 -- ---- what both buffers hold afterwards
 
@@ -132,7 +153,7 @@ zeroed n ws = fronted (replicate n (pos 0)) ws
 abbrev pub cleared : List ℤ → List ℤ
 cleared ws = zeroed room ws
 
--- the table's column "Left as it was": both buffers ..
+-- both buffers are as they were ..
 pub record BothKept (answer work answer′ work′ : List ℤ) : Type 0 where
   pub answer-kept : answer′ ≡ answer
   pub work-kept : work′ ≡ work
@@ -143,26 +164,19 @@ pub record AnswerKept (answer work answer′ work′ : List ℤ) : Type 0 where
   pub work-cleared : work′ ≡ cleared work
 
 -- accepted: the listed zones stand in front of the answer buffer, and "Words after the front are untouched"
-pub record Delivered (bytes text : List ℕ) (zones rounds : ℕ) (answer work answer′ work′ : List ℤ) : Type 0 where
-  pub list : List Zone
-  pub comes : Comes bytes text (value list rounds)
-  pub count : length list ≡ zones
-  pub answer-filled : answer′ ≡ fronted (words list) answer
+pub record Delivered (comes : Value → Type 0) (zones rounds : ℕ) (answer work answer′ work′ : List ℤ) : Type 0 where
+  pub finishes : Finishes comes zones rounds
+  pub answer-filled : answer′ ≡ fronted (words (finishes .list)) answer
   pub work-cleared : work′ ≡ cleared work
 
+-- what a call leaves, by the column
+abbrev pub LeftAs : (comes : Value → Type 0) → Returned → Left → (answer work answer′ work′ : List ℤ) → Type 0
+LeftAs comes r both = BothKept
+LeftAs comes r answer-buffer = AnswerKept
+LeftAs comes r delivered = Delivered comes (r .zones) (r .rounds)
+
 abbrev pub BuffersAs : (bytes text : List ℕ) → Outcome → (answer work answer′ work′ : List ℤ) → Type 0
-BuffersAs bytes text RecordingLength = BothKept
-BuffersAs bytes text RecordingHead = BothKept
-BuffersAs bytes text RecordingChange = BothKept
-BuffersAs bytes text DrillLength = BothKept
-BuffersAs bytes text DrillForm = BothKept
-BuffersAs bytes text DrillLetter = BothKept
-BuffersAs bytes text DrillRange = BothKept
-BuffersAs bytes text DrillDepth = BothKept
-BuffersAs bytes text WorkShort = BothKept
-BuffersAs bytes text Overflow = AnswerKept
-BuffersAs bytes text AnswerShort = AnswerKept
-BuffersAs bytes text (Finished zones rounds) = Delivered bytes text zones rounds
+BuffersAs bytes text o = LeftAs (Comes bytes text) (returned o) (leaves o)
 
 -- the whole of a call of `find`
 pub record FindAs (bytes text : List ℕ) (answer work : List ℤ) (o : Outcome) (answer′ work′ : List ℤ) : Type 0 where
@@ -171,4 +185,4 @@ pub record FindAs (bytes text : List ℕ) (answer work : List ℤ) (o : Outcome)
 
 -- "told the number of zones, the filled front of the lent answer buffer comes back; told more zones than the buffer can hold, .. the empty front"
 unfoldable pub frontOf : List ℤ → ℕ → List ℤ
-frontOf answer zones = cond (leb (zones * 6) (length answer)) (take (zones * 6) answer) []
+frontOf answer zones = cond (leb (zones * zone-words) (length answer)) (take (zones * zone-words) answer) []

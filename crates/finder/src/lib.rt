@@ -1,22 +1,30 @@
-// The drill finder: a call, its outcome, what it leaves in both buffers, and the three demands on it.
-use evaluation::Evaluated;
-use expression::Parsed;
+// The drill finder: a recording, a drill and two lent buffers in; an outcome and the listed zones out. `find` is the call, `Outcome::returned` its
+// number, zones and rounds, and `front` gives back the words of the listed zones.
+//
+// specs/Demands.antt is the page to read: the three demands, one clause each in the contract of `find`. specs/Outcome.antt has what each outcome
+// returns and leaves, the causes of a refusal and both buffers; specs/Causes.antt which cause of a list is the first. proofs/Demands.antt proves
+// the demands of every call that has the defined outcome.
+use evaluation::Window;
+use parser::Parsed;
 use recording::Dimensions;
 use recording::Reading;
+use values::Evaluated;
 ghost use mathlib.Core.Path.{_≡_};
 ghost use Prim.Native.Nat.{_*_, _≤_, min};
 ghost use lib.ListN.{length};
+ghost use Rattle.words.specs.Words.{zone-words};
 ghost use Rattle.list.specs.Slots.{listAt};
 ghost use Rattle.recording.specs.declared.Reading.the-variants.{Recorded};
-ghost use Rattle.recording.specs.Reading.{ReadAs, reading};
-ghost use Rattle.recording.specs.Levels.{Shows};
-ghost use Rattle.expression.specs.Expression.{Expression};
-ghost use Rattle.expression.specs.Planted.{Planted};
-ghost use Rattle.evaluation.specs.Lists.{Evaluates};
+ghost use Rattle.recording.specs.Reading.{ReadAs, ReadingAs};
 ghost use Rattle.finder.specs.Outcome.{largest, room, words, fronted, cleared, frontOf, FindAs, refusal, returned};
 ghost use Rattle.finder.specs.Demands.{Demand1, Demand2, Demand3};
-ghost use Rattle.evaluation.specs.Steps.{Rooted};
-ghost use Rattle.finder.specs.Steps.{WorkedAs};
+ghost use Rattle.evaluation.specs.Evaluating.{Rooted};
+ghost use Rattle.finder.specs.Steps.{InFront, comesTo, answerAfter, Works, outcomeOf};
+
+// The bytes of the largest recording, and the work words that a call needs.
+pub const LARGEST: usize = 32_768;
+
+pub const WORK_WORDS: usize = 16_384;
 
 // What a call comes to: a finished list, or the refusal whose cause holds and no earlier one does.
 pub enum Outcome {
@@ -41,24 +49,32 @@ pub struct Returned {
     pub rounds: u64,
 }
 
-// Zeroes the first 16,384 words.
+// What a stored drill comes to, with the lent buffers: the refusals 9 to 11, or its finished list.
+enum Worked {
+    WorkShort,
+    Overflow,
+    AnswerShort,
+    Finished { zones: usize, rounds: u64 },
+}
+
+// Zeroes the work words that a call may have used.
 fn clear(work: &mut [i32])
     requires { ⌜ room ≤ length (now work) ⌝ }
     ensures { λ _. ⌜ now (work .exit) ≡ cleared (now (work .entry)) ⌝ }
 {
     let mut i = 0;
-    while i < 16_384 {
+    while i < WORK_WORDS {
         work[i] = 0;
         i += 1;
     }
 }
 
 // Copies the words of the first slot's zones to the front of the answer.
-fn deliver(work: &[i32], answer: &mut [i32], count: usize)
-    requires { ⌜ (count * 6 ≤ length (now work)) × (count * 6 ≤ length (now answer)) ⌝ }
+fn fill(work: &[i32], answer: &mut [i32], count: usize)
+    requires { ⌜ (count * zone-words ≤ length (now work)) × (count * zone-words ≤ length (now answer)) ⌝ }
     ensures { λ _. ⌜ now (answer .exit) ≡ fronted (words (listAt (now (work .entry)) 0 count)) (now (answer .entry)) ⌝ }
 {
-    let n = count * 6;
+    let n = count * words::ZONE_WORDS;
     let mut i = 0;
     while i < n {
         answer[i] = work[i];
@@ -66,59 +82,76 @@ fn deliver(work: &[i32], answer: &mut [i32], count: usize)
     }
 }
 
+// The evaluated list in front of the answer, where that has room for it.
+fn deliver(evaluated: Evaluated, work: &[i32], answer: &mut [i32]) -> Worked
+    requires { ⌜ InFront evaluated (length (now work)) ⌝ }
+    ensures { λ r. ⌜ (r ≡ comesTo evaluated (length (now (answer .entry)))) × (now (answer .exit) ≡ answerAfter evaluated (now (work .entry)) (now (answer .entry))) ⌝ }
+{
+    let Evaluated::Listed { count, rounds } = evaluated else {
+        return Worked::Overflow;
+    };
+    if answer.len() / words::ZONE_WORDS < count {
+        return Worked::AnswerShort;
+    }
+    fill(work, answer, count);
+    Worked::Finished {
+        zones: count,
+        rounds,
+    }
+}
+
 // A stored drill worked out: its list evaluated in the work buffer and delivered, and the work buffer cleared.
 fn work_out(
     bytes: &[u8],
-    recording: Dimensions,
+    size: Dimensions,
     nodes: &[u32],
     root: u32,
     answer: &mut [i32],
     work: &mut [i32],
-) -> Outcome
-    requires { ⌜ (ReadAs (now bytes) recording) × (Rooted (now nodes) (recording .channels) root 16) ⌝ }
-    ensures { λ o. ⌜ ((e : Expression) → Planted (now (nodes .entry)) (recording .channels) root 16 e → WorkedAs (Evaluates (Shows (now (bytes .entry))) 0 (recording .ticks) e) o (now (answer .entry)) (now (work .entry)) (now (answer .exit)) (now (work .exit))) ⌝ }
+) -> Worked
+    requires { ⌜ (ReadAs (now bytes) size) × (Rooted (now nodes) (size .channels) root 16) ⌝ }
+    ensures { λ r. ⌜ Works (now (bytes .entry)) (now (nodes .entry)) size root r (now (answer .entry)) (now (work .entry)) (now (answer .exit)) (now (work .exit)) ⌝ }
 {
-    if work.len() < 16_384 {
-        return Outcome::WorkShort;
+    if work.len() < WORK_WORDS {
+        return Worked::WorkShort;
     }
-    let Evaluated::Listed { count, rounds } = evaluation::evaluate(
-        bytes,
-        recording,
-        nodes,
-        root,
-        work,
-        0,
-        16,
-    ) else {
-        clear(work);
-        return Outcome::Overflow;
+    let whole = Window {
+        size,
+        from: 0,
+        to: size.ticks,
     };
-    if answer.len() / 6 < count {
-        clear(work);
-        return Outcome::AnswerShort;
-    }
-    deliver(work, answer, count);
+    let evaluated = evaluation::evaluate(bytes, whole, nodes, root, work, 0, 16);
+    let worked = deliver(evaluated, work, answer);
     clear(work);
-    Outcome::Finished {
-        zones: count,
-        rounds,
+    worked
+}
+
+// The outcome of a call whose drill was worked out.
+fn outcome_of(worked: Worked) -> Outcome
+    ensures { λ o. ⌜ o ≡ outcomeOf worked ⌝ }
+{
+    match worked {
+        Worked::WorkShort => Outcome::WorkShort,
+        Worked::Overflow => Outcome::Overflow,
+        Worked::AnswerShort => Outcome::AnswerShort,
+        Worked::Finished { zones, rounds } => Outcome::Finished { zones, rounds },
     }
 }
 
 // The drill read into the lent nodes, and worked out on a recording that has been read.
 fn read_into(
     bytes: &[u8],
-    recording: Dimensions,
+    size: Dimensions,
     drill: &[u8],
     nodes: &mut [u32],
     answer: &mut [i32],
     work: &mut [i32],
 ) -> Outcome
-    requires { ⌜ (reading largest (now bytes) ≡ Recorded recording) × (min (length (now drill)) 255 * 4 ≤ length (now nodes)) ⌝ }
+    requires { ⌜ (ReadingAs largest (now bytes) (Recorded size)) × (min (length (now drill)) 255 * 4 ≤ length (now nodes)) ⌝ }
     ensures { λ o. ⌜ FindAs (now (bytes .entry)) (now (drill .entry)) (now (answer .entry)) (now (work .entry)) o (now (answer .exit)) (now (work .exit)) ⌝ }
 {
-    match expression::parse(drill, recording.channels as usize, nodes) {
-        Parsed::Root(root) => work_out(bytes, recording, nodes, root, answer, work),
+    match parser::parse(drill, size.channels as usize, nodes) {
+        Parsed::Root(root) => outcome_of(work_out(bytes, size, nodes, root, answer, work)),
         Parsed::WrongLength => Outcome::DrillLength,
         Parsed::NoForm => Outcome::DrillForm,
         Parsed::WrongLetter => Outcome::DrillLetter,
@@ -130,20 +163,24 @@ fn read_into(
 // The same with nodes of its own. An array is zeroed for each call, and most drills are short.
 fn read_drill(
     bytes: &[u8],
-    recording: Dimensions,
+    size: Dimensions,
     drill: &[u8],
     answer: &mut [i32],
     work: &mut [i32],
 ) -> Outcome
-    requires { ⌜ reading largest (now bytes) ≡ Recorded recording ⌝ }
+    requires { ⌜ ReadingAs largest (now bytes) (Recorded size) ⌝ }
     ensures { λ o. ⌜ FindAs (now (bytes .entry)) (now (drill .entry)) (now (answer .entry)) (now (work .entry)) o (now (answer .exit)) (now (work .exit)) ⌝ }
 {
+    if drill.len() < 16 {
+        let mut fewest = [0u32; 60];
+        return read_into(bytes, size, drill, &mut fewest, answer, work);
+    }
     if drill.len() < 64 {
         let mut few = [0u32; 252];
-        return read_into(bytes, recording, drill, &mut few, answer, work);
+        return read_into(bytes, size, drill, &mut few, answer, work);
     }
     let mut nodes = [0u32; 1020];
-    read_into(bytes, recording, drill, &mut nodes, answer, work)
+    read_into(bytes, size, drill, &mut nodes, answer, work)
 }
 
 // Lists every stretch of the recording that fits the drill, as zones in front of the answer buffer, or refuses.
@@ -152,8 +189,8 @@ pub fn find(recording: &[u8], drill: &[u8], answer: &mut [i32], work: &mut [i32]
     ensures demand2 { λ o. ⌜ Demand2 (now (recording .entry)) (now (drill .entry)) o (now (answer .exit)) ⌝ }
     ensures demand3 { λ o. ⌜ Demand3 (now (recording .entry)) (now (drill .entry)) o ⌝ }
 {
-    match recording::read(recording, 32_768) {
-        Reading::Recorded(numbers) => read_drill(recording, numbers, drill, answer, work),
+    match recording::read(recording, LARGEST) {
+        Reading::Recorded(size) => read_drill(recording, size, drill, answer, work),
         Reading::WrongLength => Outcome::RecordingLength,
         Reading::WrongHead => Outcome::RecordingHead,
         Reading::WrongChange => Outcome::RecordingChange,
@@ -202,8 +239,8 @@ pub fn front(answer: &[i32], zones: usize) -> &[i32]
     ensures words { λ r. ⌜ now r ≡ frontOf (now (answer .entry)) zones ⌝ }
     ensures place { λ r. ⌜ r .ptr ≡ answer .entry .ptr ⌝ }
 {
-    if zones <= answer.len() / 6 {
-        let n = zones * 6;
+    if zones <= answer.len() / words::ZONE_WORDS {
+        let n = zones * words::ZONE_WORDS;
         &answer[..n]
     } else {
         &answer[..0]

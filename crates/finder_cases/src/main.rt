@@ -4,13 +4,26 @@
 // of the work buffer, and the zones that `front` is told (the largest of these numbers stands for the largest `usize`).
 // The recording and the drill follow. Word i of either buffer is i before the call.
 use finder::Outcome;
-use sheet::Written;
+use finder::Returned;
+use finder::WORK_WORDS;
+use text::Written;
+
+// The largest inputs and buffers of a case.
+const RECORDING_BYTES: usize = 32_776;
+
+const DRILL_BYTES: usize = 400;
+
+const ANSWER_MOST: usize = 800;
+
+const WORK_MOST: usize = 16_400;
 
 fn print(text: &[u8]) {
     io::write_all(1, text);
 }
 
-fn print_number(n: u64) {
+// A number behind a text.
+fn print_number(text: &[u8], n: u64) {
+    print(text);
     io::print_decimal(1, n);
 }
 
@@ -42,13 +55,13 @@ fn is_kept(words: &[i32], start: usize) -> bool {
     true
 }
 
-// Whether the first 16,384 words are zero.
+// Whether the words that the finder clears are zero.
 fn is_cleared(words: &[i32]) -> bool {
-    if words.len() < 16_384 {
+    if words.len() < WORK_WORDS {
         return false;
     }
     let mut i = 0;
-    while i < 16_384 {
+    while i < WORK_WORDS {
         if words[i] != 0 {
             return false;
         }
@@ -57,18 +70,21 @@ fn is_cleared(words: &[i32]) -> bool {
     true
 }
 
+fn print_behind(words: &[i32], start: usize) {
+    if is_kept(words, start) {
+        print(b" kept behind\n");
+    } else {
+        print(b" written behind\n");
+    }
+}
+
 fn print_answer_state(answer: &[i32], filled: usize) {
     if is_kept(answer, 0) {
         print(b"answer kept\n");
         return;
     }
-    print(b"answer front ");
-    print_number(filled as u64);
-    if is_kept(answer, filled) {
-        print(b" kept behind\n");
-    } else {
-        print(b" written behind\n");
-    }
+    print_number(b"answer front ", filled as u64);
+    print_behind(answer, filled);
 }
 
 fn print_work_state(work: &[i32]) {
@@ -81,11 +97,7 @@ fn print_work_state(work: &[i32]) {
     } else {
         print(b"work not zero");
     }
-    if is_kept(work, 16_384) {
-        print(b" kept behind\n");
-    } else {
-        print(b" written behind\n");
-    }
+    print_behind(work, WORK_WORDS);
 }
 
 fn print_front(text: &[u8], n: usize) {
@@ -95,35 +107,53 @@ fn print_front(text: &[u8], n: usize) {
 }
 
 fn print_sheet(outcome: Outcome, front: &[i32]) {
-    let mut text = [0u8; 12_288];
+    let mut text = [0u8; sheet::LONGEST];
     let Written::Bytes(n) = sheet::text(outcome, front, &mut text) else {
         return;
     };
     print_front(&text, n);
 }
 
-fn call(recording: &[u8], drill: &[u8], answer: &mut [i32], work: &mut [i32], told: usize) {
-    let outcome = finder::find(recording, drill, answer, work);
-    let returned = outcome.returned();
-    print(b"returned ");
-    print_number(returned.number as u64);
-    print(b" ");
-    print_number(returned.zones as u64);
-    print(b" ");
-    print_number(returned.rounds);
+fn print_returned(returned: Returned) {
+    print_number(b"returned ", returned.number as u64);
+    print_number(b" ", returned.zones as u64);
+    print_number(b" ", returned.rounds);
     print(b"\n");
+}
+
+fn print_front_length(answer: &[i32], told: usize) {
+    let shown = finder::front(answer, told);
+    print_number(b"front ", shown.len() as u64);
+    print(b"\n");
+}
+
+// What a call returned and left in both buffers.
+fn print_call(outcome: Outcome, answer: &[i32], work: &[i32], told: usize) {
+    let returned = outcome.returned();
+    print_returned(returned);
     let listed = finder::front(answer, returned.zones);
     print_answer_state(answer, listed.len());
     print_work_state(work);
-    print(b"front ");
-    let shown = finder::front(answer, told);
-    print_number(shown.len() as u64);
-    print(b"\n");
+    print_front_length(answer, told);
     print_sheet(outcome, listed);
+}
+
+// What the finder promises stays here: that printing is safe and ends needs none of it.
+fn call(recording: &[u8], drill: &[u8], answer: &mut [i32], work: &mut [i32], told: usize) {
+    let outcome = finder::find(recording, drill, answer, work);
+    print_call(outcome, answer, work, told);
 }
 
 fn number(a: u8, b: u8, c: u8, d: u8) -> usize {
     a as usize + 256 * (b as usize) + 65_536 * (c as usize) + 16_777_216 * (d as usize)
+}
+
+// The number that starts at a byte of the five.
+fn number_at(head: &[u8; 20], at: usize) -> usize {
+    if 16 < at {
+        return 0;
+    }
+    number(head[at], head[at + 1], head[at + 2], head[at + 3])
 }
 
 // Reads n bytes from standard input into the buffer, and answers whether all of them came.
@@ -175,39 +205,53 @@ fn call_on(
     );
 }
 
-// Reads a case and runs it; answers whether there was one.
-fn run_case(k: u64) -> bool {
+fn print_case(k: u64) {
+    print_number(b"case ", k);
+    print(b"\n");
+}
+
+// The call with so many words of both buffers.
+fn run_on(recording: &[u8], n: usize, drill: &[u8], m: usize, a: usize, w: usize, told: usize) {
+    let mut answer = [0i32; ANSWER_MOST];
+    let mut work = [0i32; WORK_MOST];
+    fill(&mut answer);
+    fill(&mut work);
+    call_on(recording, n, drill, m, &mut answer, a, &mut work, w, told);
+}
+
+// Reads the recording and the drill of case k, and runs it with so many words of both buffers; answers whether it was
+// all there.
+fn run_case(k: u64, n: usize, m: usize, a: usize, w: usize, told: usize) -> bool {
+    let mut recording = [0u8; RECORDING_BYTES];
+    if !is_read(&mut recording, n) {
+        return false;
+    }
+    let mut drill = [0u8; DRILL_BYTES];
+    if !is_read(&mut drill, m) {
+        return false;
+    }
+    print_case(k);
+    run_on(&recording, n, &drill, m, a, w, told);
+    true
+}
+
+// Reads the five numbers of a case and runs it; answers whether there was one.
+fn next_case(k: u64) -> bool {
     let mut head = [0u8; 20];
     if !is_read(&mut head, 20) {
         return false;
     }
-    let n = number(head[0], head[1], head[2], head[3]);
-    let m = number(head[4], head[5], head[6], head[7]);
-    let a = number(head[8], head[9], head[10], head[11]);
-    let w = number(head[12], head[13], head[14], head[15]);
-    let told = told_zones(number(head[16], head[17], head[18], head[19]));
-    let mut recording = [0u8; 32_776];
-    if !is_read(&mut recording, n) {
-        return false;
-    }
-    let mut drill = [0u8; 400];
-    if !is_read(&mut drill, m) {
-        return false;
-    }
-    let mut answer = [0i32; 800];
-    let mut work = [0i32; 16_400];
-    fill(&mut answer);
-    fill(&mut work);
-    print(b"case ");
-    print_number(k);
-    print(b"\n");
-    call_on(&recording, n, &drill, m, &mut answer, a, &mut work, w, told);
-    true
+    let n = number_at(&head, 0);
+    let m = number_at(&head, 4);
+    let a = number_at(&head, 8);
+    let w = number_at(&head, 12);
+    let told = told_zones(number_at(&head, 16));
+    run_case(k, n, m, a, w, told)
 }
 
 fn main() {
     let mut k = 1;
-    while k < 1_000_000 && run_case(k) {
+    while k < 1_000_000 && next_case(k) {
         k += 1;
     }
 }

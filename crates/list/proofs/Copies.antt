@@ -7,8 +7,7 @@ use native.Mathlib.Omega.{arith}
 use lib.IntN.{ℤ}
 use Rattle.zone.specs.declared.Zone.{Zone}
 use Rattle.words.specs.Words.{word}
-use Rattle.list.specs.Slots.{listAt, Holds, Kept, KeptBoth, Disjoint}
-use Rattle.list.specs.Steps.{Copied}
+use Rattle.list.specs.Slots.{listAt, Holds, Kept, KeptBoth, Disjoint, Copied}
 use Rattle.list.proofs.Slots.{kept-refl, kept-within}
 
 -- words written in one slot, then in another
@@ -32,7 +31,13 @@ both-trans p q = record { same-length = q .same-length ∙ p .same-length; other
 pub kept-neither : (a b : ℕ) (ws : List ℤ) → KeptBoth a b ws ws
 kept-neither a b ws = record { same-length = refl; others = λ k h g. refl }
 
--- ---- a round: the list copied, then grown
+-- ---- two slots
+
+pub disjoint-swap : {a b : ℕ} → Disjoint a b → Disjoint b a
+disjoint-swap (inl h) = inr h
+disjoint-swap (inr h) = inl h
+
+-- ---- a list copied from slot to slot
 
 -- words of one slot may be copied to another, before it or past it
 pub copy-order : {list n copy : ℕ} → Disjoint list copy → n ≤ 128 → (copy ≤ list) ⊎ (list + n * 6 ≤ copy)

@@ -9,7 +9,7 @@ use native.Mathlib.Omega.{arith}
 use borrow.Author.Tests.{ltb-true, ltb-false}
 use lib.Dec.{T, ltb}
 use lib.ListN.{length, length-append}
-use Rattle.zone.specs.Time.{Time}
+use Rattle.limit.specs.Time.{Time}
 use Rattle.zone.specs.declared.Zone.{Zone}
 use Rattle.zone.specs.declared.MaybeZone.{MaybeZone}
 use Rattle.zone.specs.declared.MaybeZone.the-variants.{Zone as zone, Empty as empty}
@@ -17,7 +17,7 @@ use Rattle.zone.specs.Zone.{contains, In, InMaybe, Proper}
 use Rattle.zone.proofs.Laws.{contains-refl, contains-trans, contains-in}
 use Rattle.list.specs.Insert.{capacity, covered, outside, Put, away, placed, overflow, insert, listed, after, insert-each}
 use Rattle.list.specs.Members.{Lies, AllProper, Covered}
-use Rattle.list.specs.Antichain.{Apart, Antichain}
+use Rattle.list.proofs.Antichain.{Apart, Antichain}
 
 -- two constructors are never equal: `clash (cc)`
 pub clash : {A : Type 0} → _≡_ {A = ℕ} 0 1 → A

@@ -1,3 +1,4 @@
+pub mod Antichain
 pub mod Coverage
 pub mod Members
 pub mod Theorems

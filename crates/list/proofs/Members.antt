@@ -2,7 +2,7 @@
 use mathlib.Core.Path.{_≡_, refl, sym, subst}
 use mathlib.Core.Logic.{_↔_, _⊎_, ⊎-map, ⊎-elim, Iff·trans}
 use mathlib.Core.List.{List, [], _∷_, _++_, map, List·Memᴰ, List·Memᴰ·head as head, List·Memᴰ·not-nil as not-nil, Memᴰ·append-left as append-left, Memᴰ·append-right as append-right, List·Memᴰ·append-cases as append-cases, List·Memᴰ·eq-of-singleton as eq-of-singleton, Memᴰ·map, Memᴰ·of-map, Memᴰ·cast}
-use Rattle.zone.specs.Time.{Time}
+use Rattle.limit.specs.Time.{Time}
 use Rattle.zone.specs.declared.Zone.{Zone}
 use Rattle.zone.specs.declared.MaybeZone.{MaybeZone}
 use Rattle.zone.specs.declared.MaybeZone.the-variants.{Zone as zone}

@@ -50,11 +50,11 @@ module _ (z : Zone) (ws : List ℤ) {us : List ℤ} (base n : ℕ) {m : ℕ} (ne
         kept = subst (λ (xs : List ℤ). Kept base 768 ws xs) (sym e) (kept-trans k (kept-within (omega arith) (omega arith) (kept-written us (base + m * 6) z (omega arith))));
       }
 
-  -- z behind those that stay
-  pub appended : (vs : List ℤ) → Kept base 768 ws us → base + 768 ≤ length ws → (r : Inserted) → AppendAs z us base m vs r → InsertAs z ws base n vs r
-  appended vs k fits Away a = absurd a
-  appended vs k fits (Placed j) a = subst (Placement z ws base n vs) (sym (a .0)) (placement k (a .1) fits (a .2))
-  appended vs k fits Overflow a = (no-place (a .0), subst (λ (xs : List ℤ). Kept base 768 ws xs) (sym (a .1)) k)
+  -- z behind those that stay; there is room for it unless all of them do
+  pub appended : (vs : List ℤ) → Kept base 768 ws us → (128 ≤ m → us ≡ ws) → base + 768 ≤ length ws → (r : Inserted) → AppendAs z us base m vs r → InsertAs z ws base n vs r
+  appended vs k same fits Away a = absurd a
+  appended vs k same fits (Placed j) a = subst (Placement z ws base n vs) (sym (a .0)) (placement k (a .1) fits (a .2))
+  appended vs k same fits Overflow a = (no-place (a .0), a .1 ∙ same (a .0))
 
 -- ---- a list that grows
 

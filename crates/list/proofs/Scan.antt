@@ -7,14 +7,14 @@ use Prim.Native.Nat.{ℕ, suc, _+_, _-_, _*_, _≤_, _<_}
 use native.Mathlib.Omega.{arith}
 use native.Mathlib.Numerals.{add-one}
 use lib.IntN.{ℤ}
-use lib.ListN.{length}
+use lib.ListN.{length, length-append}
 use Rattle.zone.specs.declared.Zone.{Zone}
 use Rattle.zone.specs.Zone.{contains}
 use Rattle.words.specs.Words.{zoneAt}
 use Rattle.list.specs.Insert.{covered, outside}
 use Rattle.words.proofs.Words.{same-zone}
-use Rattle.list.specs.Slots.{listAt, Holds, Kept}
-use Rattle.list.specs.Steps.{Copied, KeepsAs, Sifting, Clear, Alone, LookAs}
+use Rattle.list.specs.Slots.{listAt, Holds, Kept, Copied}
+use Rattle.list.specs.Steps.{KeepsAs, Sifting, Clear, Yields, Alone, LookAs}
 use Rattle.list.specs.declared.Look.{Look}
 use Rattle.list.specs.declared.Look.the-variants.{Held, Apart, One, Several}
 use Rattle.list.proofs.Slots.{listAt-length, listAt-next, listAt-split, listAt-snoc, kept-refl, listAt-kept, listAt-copied, kept-trans, kept-within}
@@ -80,21 +80,24 @@ module _ (z : Zone) (ws : List ℤ) (base i : ℕ) where
   pub still-clear : {k : ℕ} → contains (zoneAt ws (base + i * 6)) z ≡ false → Clear z ws base i k → Clear z ws base (i + 1) k
   still-clear e c = record { most = omega (arith, c .most); new = covered-more ∙ rw (c .new, e); front = c .front }
 
+  pub still-yields : {k : ℕ} → contains (zoneAt ws (base + i * 6)) z ≡ false → Yields z ws base i k → Yields z ws base (i + 1) k
+  still-yields e y = record { some = omega (arith, y .some); clear = still-clear e (y .clear); inside = y .inside }
+
   -- a zone that is apart from z
   pub look-on : (seen : Look) → contains (zoneAt ws (base + i * 6)) z ≡ false → contains z (zoneAt ws (base + i * 6)) ≡ false → LookAs z ws base i seen → LookAs z ws base (i + 1) seen
   look-on Held e f l = still-held l
   look-on Apart e f l = record { most = omega arith; new = covered-more ∙ rw (l .new, e); front = outside-more ∙ rw (f, l .front) (sym one-more) }
   look-on (One k) e f l =
-      let m : i + 1 - k - 1 ≡ suc (i - k - 1) = omega (arith, l .some) in
-      let at : base + k * 6 + 6 + (i - k - 1) * 6 ≡ base + i * 6 = omega (arith, l .some) in
+      let some = l .yields .some in
+      let m : i + 1 - k - 1 ≡ suc (i - k - 1) = omega arith in
+      let at : base + k * 6 + 6 + (i - k - 1) * 6 ≡ base + i * 6 = omega arith in
       let tail : listAt ws (base + k * 6 + 6) (i + 1 - k - 1) ≡ listAt ws (base + k * 6 + 6) (i - k - 1) ++ (zoneAt ws (base + i * 6) ∷ []) =
       ap (listAt ws (base + k * 6 + 6)) m ∙ listAt-snoc ws (base + k * 6 + 6) (i - k - 1) ∙ ap (λ (a : ℕ). listAt ws (base + k * 6 + 6) (i - k - 1) ++ (zoneAt ws a ∷ [])) at in
       record {
-        some = omega (arith, l .some);
-        clear = still-clear e (l .clear);
+        yields = still-yields e (l .yields);
         left = outside-more ∙ rw (f, l .left) (append-assoc (listAt ws base k) (listAt ws (base + k * 6 + 6) (i - k - 1)) (zoneAt ws (base + i * 6) ∷ [])) ∙ ap (λ (L : List Zone). listAt ws base k ++ L) (sym tail);
       }
-  look-on (Several k) e f l = still-clear e l
+  look-on (Several k) e f l = still-yields e l
 
   -- one that lies inside z
   pub first-inside : contains (zoneAt ws (base + i * 6)) z ≡ false → contains z (zoneAt ws (base + i * 6)) ≡ true → Clear z ws base i i → Alone z ws base (i + 1) i
@@ -102,8 +105,7 @@ module _ (z : Zone) (ws : List ℤ) (base i : ℕ) where
   first-inside e f c =
       let m : i + 1 - i - 1 ≡ 0 = omega arith in
       record {
-        some = omega arith;
-        clear = still-clear e c;
+        yields = record { some = omega arith; clear = still-clear e c; inside = f };
         left = outside-more ∙ rw (f, c .front, m);
       }
 
@@ -153,6 +155,22 @@ module _ {z : Zone} {base n : ℕ} {ws₀ ws : List ℤ} {kept i : ℕ} (s : Sif
   pub sift-step : {vs : List ℤ} {r : ℕ} → KeepsAs (contains z (zoneAt ws (base + i * 6))) (base + i * 6) base kept ws vs r → Sifting z base n ws₀ vs r (i + 1)
   sift-step = settled (contains z (zoneAt ws (base + i * 6))) refl
 
+-- where a zone gives way, there are fewer than before
+fewer-outside : (z : Zone) (L : List Zone) → length (outside z L) ≤ length L
+unfolding outside
+fewer-outside z [] = omega arith
+fewer-outside z (y ∷ L) = go (contains z y) (fewer-outside z L)
+  where
+    go : (b : Bool) → length (outside z L) ≤ length L → length (cond b (outside z L) (y ∷ outside z L)) ≤ suc (length L)
+    go true h = omega arith
+    go false h = omega arith
+
+pub yields-fewer : {z : Zone} {ws : List ℤ} {base n k : ℕ} → Yields z ws base n k → n ≤ 128 → length (outside z (listAt ws base n)) < n
+yields-fewer {z} {ws} {base} {n} {k} y few =
+    let rest = listAt ws (base + (k + 1) * 6) (n - (k + 1)) in
+    let e : outside z (listAt ws base n) ≡ listAt ws base k ++ outside z rest = rests (sifted (y .clear)) (y .some) few true (y .inside) in
+    omega (arith, y .some, ap length e, length-append (listAt ws base k) (outside z rest), listAt-length ws base k, fewer-outside z rest, listAt-length ws (base + (k + 1) * 6) (n - (k + 1)))
+
 pub sift-end : {z : Zone} {base n : ℕ} {ws₀ ws : List ℤ} {kept i : ℕ} → Sifting z base n ws₀ ws kept i → n ≤ i → n ≤ 128 → Holds ws base kept (outside z (listAt ws₀ base n))
 unfolding outside
 sift-end {z} {base} {n} {ws₀} {ws} {kept} {i} s h few =
@@ -165,7 +183,7 @@ sift-end {z} {base} {n} {ws₀} {ws} {kept} {i} s h few =
 module _ {z : Zone} {base n k : ℕ} {ws vs : List ℤ} (a : Alone z ws base n k) (few : n ≤ 128) (c : Copied (base + k * 6 + 6) (base + k * 6) ((n - k - 1) * 6) ws vs) where
   moved : listAt vs base (n - 1) ≡ listAt ws base k ++ listAt ws (base + k * 6 + 6) (n - k - 1)
   moved =
-      let e : n - 1 ≡ k + (n - k - 1) = omega (arith, a .some) in
+      let e : n - 1 ≡ k + (n - k - 1) = omega (arith, a .yields .some) in
       let front : listAt vs base k ≡ listAt ws base k = listAt-kept base k (c .kept) (inl (omega arith)) in
       let back : listAt vs (base + k * 6) (n - k - 1) ≡ listAt ws (base + k * 6 + 6) (n - k - 1) = listAt-copied (n - k - 1) c in
       ap (listAt vs base) e ∙ listAt-split vs base k (n - k - 1) ∙ (λ i. front i ++ back i)
@@ -176,4 +194,4 @@ module _ {z : Zone} {base n k : ℕ} {ws vs : List ℤ} (a : Alone z ws base n k
       record { count = ap length (sym e) ∙ listAt-length vs base (n - 1); few = omega arith; zones = e }
 
   pub closed-kept : Kept base 768 ws vs
-  closed-kept = kept-within (omega arith) (omega (arith, a .some)) (c .kept)
+  closed-kept = kept-within (omega arith) (omega (arith, a .yields .some)) (c .kept)

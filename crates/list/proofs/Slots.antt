@@ -13,8 +13,7 @@ use borrow.Author.Tests.{ltb-true, ltb-false}
 use Rattle.zone.specs.declared.Zone.{Zone}
 use Rattle.words.specs.Words.{word, zoneAt, codes, overwrite}
 use Rattle.words.proofs.Words.{same-zone, written-zone, zone-word, overwrite-length, overwrite-below, overwrite-in, overwrite-above}
-use Rattle.list.specs.Slots.{listAt, Slot, Source, Sound, Holds, Kept, Disjoint}
-use Rattle.list.specs.Steps.{Copied}
+use Rattle.list.specs.Slots.{listAt, Free, Slot, Source, Sound, Holds, Kept, Disjoint, Copied}
 
 pub below-or-not : (a b : ℕ) → (a < b) ⊎ (b ≤ a)
 below-or-not a b = go (ltb a b) refl
@@ -70,6 +69,10 @@ still-source from n s k d = record { few = s .few; room = omega (arith, s .room,
 
 pub still-slot : {base n m target size : ℕ} {ws vs : List ℤ} → Slot ws base n → Kept target size ws vs → m ≤ 128 → Slot vs base m
 still-slot s k h = record { few = h; room = omega (arith, s .room, k .same-length) }
+
+-- a free slot has an empty list
+pub still-empty : {base target size : ℕ} {ws vs : List ℤ} → Kept target size ws vs → Free ws base → Slot vs base 0
+still-empty k h = record { few = omega arith; room = omega (arith, k .same-length) }
 
 pub listAt-copied : {from to : ℕ} (n : ℕ) {ws vs : List ℤ} → Copied from to (n * 6) ws vs → listAt vs to n ≡ listAt ws from n
 listAt-copied {from} {to} n {ws} {vs} c = listAt-same ws vs from to n (c .moved)

@@ -7,14 +7,14 @@ use Prim.Native.Nat.{ℕ, _≤_}
 use native.Mathlib.Omega.{arith}
 use lib.Dec.{T}
 use lib.ListN.{length, length-append}
-use Rattle.zone.specs.Time.{Time}
+use Rattle.limit.specs.Time.{Time}
 use Rattle.zone.specs.declared.Zone.{Zone}
 use Rattle.zone.specs.declared.MaybeZone.{MaybeZone}
 use Rattle.zone.specs.declared.MaybeZone.the-variants.{Zone as zone}
 use Rattle.zone.specs.Zone.{contains, In, Proper}
 use Rattle.list.specs.Insert.{capacity, covered, outside, away, placed, insert, listed, insert-each}
 use Rattle.list.specs.Members.{Lies, AllProper, Covered}
-use Rattle.list.specs.Antichain.{Antichain}
+use Rattle.list.proofs.Antichain.{Antichain}
 use Rattle.list.proofs.Coverage as coverage
 use Rattle.list.proofs.Coverage.{Puts, Offered, puts, insert-cases, covered-lies, covered-within, clash}
 use Rattle.list.proofs.Members.{nothing-lies, mem-zones, offered-zones, offered-one}

@@ -1,5 +1,4 @@
--- Putting a zone into a list: "if it lies inside a listed zone, nothing; else the listed zones inside it are removed, the rest keep their
--- order, it goes last". No list has more than 128 zones.
+-- Putting a zone into a list. No list has more than 128 zones.
 use mathlib.Core.Bool.{Bool, false, cond, _||_}
 use mathlib.Core.List.{List, [], _∷_, _++_}
 use Prim.Native.Nat.{ℕ}
@@ -10,6 +9,7 @@ use Rattle.zone.specs.declared.MaybeZone.{MaybeZone}
 use Rattle.zone.specs.declared.MaybeZone.the-variants.{Zone as zone, Empty as empty}
 use Rattle.zone.specs.Zone.{contains}
 
+-- the zones that a list has at most
 abbrev pub capacity : ℕ
 capacity = 128
 
@@ -29,6 +29,7 @@ pub data Put : Type 0 where
   placed : List Zone → Put
   overflow : Put
 
+-- "if it lies inside a listed zone, nothing; else the listed zones inside it are removed, the rest keep their order, it goes last"
 unfoldable pub insert : Zone → List Zone → Put
 insert z L = cond (covered z L) away (cond (ltb (length (outside z L)) capacity) (placed (outside z L ++ (z ∷ []))) overflow)
 
@@ -37,6 +38,7 @@ pub data Built : Type 0 where
   listed : List Zone → Built
   overflow : Built
 
+-- go on with the list that a put leaves, if there is one
 abbrev pub after : Put → List Zone → (List Zone → Built) → Built
 after away L next = next L
 after (placed M) L next = next M

@@ -1,7 +1,7 @@
 -- Stretches and zones that lie in a list.
 use mathlib.Core.List.{List, List·Memᴰ}
 use Prim.Native.Nat.{ℕ}
-use Rattle.zone.specs.Time.{Time}
+use Rattle.limit.specs.Time.{Time}
 use Rattle.zone.specs.declared.Zone.{Zone}
 use Rattle.zone.specs.Zone.{In, Proper, contains}
 use lib.Dec.{T}

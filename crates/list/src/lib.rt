@@ -2,22 +2,23 @@
 // copied from slot to slot.
 //
 // specs/ has a definition for each, over plain lists of zones; specs/Slots.antt says how a slot holds a list.
-use zone::Nesting;
+use words::Nesting;
+use words::ZONE_WORDS;
 use zone::Zone;
 ghost use mathlib.Core.Path.{_≡_};
 ghost use mathlib.Core.Logic.{_⊎_};
 ghost use Prim.Native.Nat.{_+_, _*_, _≤_, _<_};
 ghost use lib.ListN.{length};
-ghost use Rattle.words.specs.Words.{zoneAt};
+ghost use Rattle.words.specs.Words.{zone-words, zoneAt};
 ghost use Rattle.zone.specs.Zone.{Ranged, contains};
-ghost use Rattle.list.specs.Insert.{outside};
-ghost use Rattle.list.specs.Slots.{listAt, Slot, Holds, Kept, Disjoint, InsertAs};
-ghost use Rattle.list.specs.Steps.{Copied, KeepsAs, Sifting, LookAs, AlsoAs, AppendAs};
+ghost use Rattle.list.specs.Insert.{capacity, outside};
+ghost use Rattle.list.specs.Slots.{slot-words, listAt, Free, Slot, Holds, Kept, Copied, Disjoint, InsertAs};
+ghost use Rattle.list.specs.Steps.{KeepsAs, Sifting, LookAs, AlsoAs, AppendAs};
 
 // The zones that a list has at most, and the words of a slot, which has room for them.
 pub const CAPACITY: usize = 128;
 
-pub const SLOT_WORDS: usize = CAPACITY * words::ZONE_WORDS;
+pub const SLOT_WORDS: usize = CAPACITY * ZONE_WORDS;
 
 // What a put comes to: turned away, placed with the new count, or a list that would have 129 zones.
 pub enum Inserted {
@@ -27,7 +28,7 @@ pub enum Inserted {
 }
 
 // What a new zone meets in a list: a zone that holds it; else only zones apart from it; or one inside it, at this place;
-// or any number inside it, none of them before this place, so that the rest are to be gone through.
+// or any number inside it, the first of them at this place, so that the rest are to be gone through.
 enum Look {
     Held,
     Apart,
@@ -38,12 +39,12 @@ enum Look {
 // Moves the n words behind the first six of a part to its front. Both places stand in one part, so that the compiler makes
 // a single move of memory of it.
 fn close_gap(part: &mut [i32], n: usize)
-    requires { ⌜ n + 6 ≤ length (now part) ⌝ }
-    ensures { λ _. ⌜ Copied 6 0 n (now (part .entry)) (now (part .exit)) ⌝ }
+    requires { ⌜ n + zone-words ≤ length (now part) ⌝ }
+    ensures { λ _. ⌜ Copied zone-words 0 n (now (part .entry)) (now (part .exit)) ⌝ }
 {
     let mut k = 0;
     while k < n {
-        part[k] = part[k + 6];
+        part[k] = part[k + ZONE_WORDS];
         k += 1;
     }
 }
@@ -51,12 +52,12 @@ fn close_gap(part: &mut [i32], n: usize)
 // Copies n zones to a place before them, or to one past their end. Most lists are short, and go zone by zone in fewer
 // steps than word by word.
 pub fn copy_zones(words: &mut [i32], from: usize, to: usize, n: usize)
-    requires { ⌜ (from + n * 6 ≤ length (now words)) × (to + n * 6 ≤ length (now words)) × ((to ≤ from) ⊎ (from + n * 6 ≤ to)) ⌝ }
-    ensures { λ _. ⌜ Copied from to (n * 6) (now (words .entry)) (now (words .exit)) ⌝ }
+    requires { ⌜ (from + n * zone-words ≤ length (now words)) × (to + n * zone-words ≤ length (now words)) × ((to ≤ from) ⊎ (from + n * zone-words ≤ to)) ⌝ }
+    ensures { λ _. ⌜ Copied from to (n * zone-words) (now (words .entry)) (now (words .exit)) ⌝ }
 {
     let mut k = 0;
     while k < n {
-        words::move_zone(words, from + k * 6, to + k * 6);
+        words::move_zone(words, from + k * ZONE_WORDS, to + k * ZONE_WORDS);
         k += 1;
     }
 }
@@ -74,14 +75,14 @@ fn also(seen: Look, i: usize) -> Look
 }
 
 // Goes over a list up to a zone that holds the one of six words w.
-fn look_over(words: &[i32], base: usize, count: usize, w: &[i32; 6]) -> Look
-    requires { ⌜ (count ≤ 128) × (base + count * 6 ≤ length (now words)) ⌝ }
+fn look_over(words: &[i32], base: usize, count: usize, w: &[i32; ZONE_WORDS]) -> Look
+    requires { ⌜ Slot (now words) base count ⌝ }
     ensures { λ r. ⌜ LookAs (zoneAt (now (w .entry)) 0) (now (words .entry)) base count r ⌝ }
 {
     let mut seen = Look::Apart;
     let mut i = 0;
     while i < count {
-        match words::nested(w, 0, words, base + i * 6) {
+        match words::nested(w, 0, words, base + i * ZONE_WORDS) {
             Nesting::Inside => {
                 return Look::Held;
             }
@@ -96,26 +97,38 @@ fn look_over(words: &[i32], base: usize, count: usize, w: &[i32; 6]) -> Look
 }
 
 // Keeps the i-th zone, behind the first `kept`, unless it lies inside the one of six words w; answers how many are kept.
-fn keep_outside(words: &mut [i32], base: usize, i: usize, kept: usize, w: &[i32; 6]) -> usize
-    requires { ⌜ (kept ≤ i) × (i < 128) × (base + 768 ≤ length (now words)) ⌝ }
-    ensures { λ r. ⌜ KeepsAs (contains (zoneAt (now (w .entry)) 0) (zoneAt (now (words .entry)) (base + i * 6))) (base + i * 6) base kept (now (words .entry)) (now (words .exit)) r ⌝ }
+fn keep_outside(
+    words: &mut [i32],
+    base: usize,
+    i: usize,
+    kept: usize,
+    w: &[i32; ZONE_WORDS],
+) -> usize
+    requires { ⌜ (kept ≤ i) × (i < capacity) × (Free (now words) base) ⌝ }
+    ensures { λ r. ⌜ KeepsAs (contains (zoneAt (now (w .entry)) 0) (zoneAt (now (words .entry)) (base + i * zone-words))) (base + i * zone-words) base kept (now (words .entry)) (now (words .exit)) r ⌝ }
 {
-    if words::included(words, base + i * 6, w, 0) {
+    if words::included(words, base + i * ZONE_WORDS, w, 0) {
         return kept;
     }
     if kept == i {
         return kept + 1; // it stands there already
     }
-    words::move_zone(words, base + i * 6, base + kept * 6);
+    words::move_zone(words, base + i * ZONE_WORDS, base + kept * ZONE_WORDS);
     kept + 1
 }
 
 // Removes the listed zones inside the one of six words w, none of which is among the first `clear`, the rest keeping
 // their order; answers how many are left.
-fn remove_inside(words: &mut [i32], base: usize, count: usize, clear: usize, w: &[i32; 6]) -> usize
+fn remove_inside(
+    words: &mut [i32],
+    base: usize,
+    count: usize,
+    clear: usize,
+    w: &[i32; ZONE_WORDS],
+) -> usize
     requires { ⌜ (Slot (now words) base count) × (Sifting (zoneAt (now w) 0) base count (now words) (now words) clear clear) ⌝ }
     ensures left { λ r. ⌜ Holds (now (words .exit)) base r (outside (zoneAt (now (w .entry)) 0) (listAt (now (words .entry)) base count)) ⌝ }
-    ensures kept { λ _. ⌜ Kept base 768 (now (words .entry)) (now (words .exit)) ⌝ }
+    ensures kept { λ _. ⌜ Kept base slot-words (now (words .entry)) (now (words .exit)) ⌝ }
 {
     let mut kept = clear;
     let mut i = clear;
@@ -127,19 +140,20 @@ fn remove_inside(words: &mut [i32], base: usize, count: usize, clear: usize, w: 
 }
 
 // Puts the zone of six words w behind the first n of a slot, where there is room.
-fn append(words: &mut [i32], base: usize, n: usize, w: &[i32; 6]) -> Inserted
+fn append(words: &mut [i32], base: usize, n: usize, w: &[i32; ZONE_WORDS]) -> Inserted
     requires { ⌜ Slot (now words) base n ⌝ }
     ensures { λ r. ⌜ AppendAs (zoneAt (now (w .entry)) 0) (now (words .entry)) base n (now (words .exit)) r ⌝ }
 {
     if CAPACITY <= n {
         return Inserted::Overflow;
     }
-    words::copy_zone(words, base + n * 6, w, 0);
+    words::copy_zone(words, base + n * ZONE_WORDS, w, 0);
     Inserted::Placed(n + 1)
 }
 
-// Puts the zone of six words w into the list of a slot.
-pub fn insert_words(words: &mut [i32], base: usize, count: usize, w: &[i32; 6]) -> Inserted
+// Puts the zone of six words w into the list of a slot. Where it would be the 129th, no zone gave way to it, and so no word
+// has been written.
+pub fn insert_words(words: &mut [i32], base: usize, count: usize, w: &[i32; ZONE_WORDS]) -> Inserted
     requires { ⌜ Slot (now words) base count ⌝ }
     ensures { λ r. ⌜ InsertAs (zoneAt (now (w .entry)) 0) (now (words .entry)) base count (now (words .exit)) r ⌝ }
 {
@@ -147,8 +161,8 @@ pub fn insert_words(words: &mut [i32], base: usize, count: usize, w: &[i32; 6]) 
         Look::Held => Inserted::Away,
         Look::Apart => append(words, base, count, w),
         Look::One(k) => {
-            let gap = base + k * 6;
-            close_gap(&mut words[gap..], (count - k - 1) * 6);
+            let gap = base + k * ZONE_WORDS;
+            close_gap(&mut words[gap..], (count - k - 1) * ZONE_WORDS);
             append(words, base, count - 1, w)
         }
         Look::Several(k) => {
@@ -163,16 +177,16 @@ pub fn insert(words: &mut [i32], base: usize, count: usize, z: Zone) -> Inserted
     requires { ⌜ (Slot (now words) base count) × (Ranged 1_000_000 z) ⌝ }
     ensures { λ r. ⌜ InsertAs z (now (words .entry)) base count (now (words .exit)) r ⌝ }
 {
-    let mut w = [0i32; 6];
+    let mut w = [0i32; ZONE_WORDS];
     words::write_zone(&mut w, 0, z);
     insert_words(words, base, count, &w)
 }
 
 // Brings a list to its slot, where it stands in another.
 pub fn bring(words: &mut [i32], at: usize, n: usize, target: usize)
-    requires { ⌜ (n ≤ 128) × (at + 768 ≤ length (now words)) × (target + 768 ≤ length (now words)) × ((at ≡ target) ⊎ (Disjoint at target)) ⌝ }
+    requires { ⌜ (n ≤ capacity) × (Free (now words) at) × (Free (now words) target) × ((at ≡ target) ⊎ (Disjoint at target)) ⌝ }
     ensures list { λ _. ⌜ listAt (now (words .exit)) target n ≡ listAt (now (words .entry)) at n ⌝ }
-    ensures kept { λ _. ⌜ Kept target 768 (now (words .entry)) (now (words .exit)) ⌝ }
+    ensures kept { λ _. ⌜ Kept target slot-words (now (words .entry)) (now (words .exit)) ⌝ }
 {
     if at == target {
         return;

@@ -9,10 +9,12 @@ use lib.Dec.{leb, ltb}
 use lib.IntN.{ℤ}
 use lib.ListN.{length}
 use Rattle.zone.specs.declared.Zone.{Zone}
-use Rattle.zone.specs.Limit.{lesser, _⊕_}
+use Rattle.limit.specs.Limit.{lesser, _⊕_}
 use Rattle.zone.specs.Zone.{tighter, where-room, tighten, both, meet, across, compose, run, diagonal, everything, limited, band as bandOf}
+use Rattle.words.specs.Words.{zone-words}
 use Rattle.list.specs.Insert.{covered, outside, insert, insert-each}
-use Rattle.operators.specs.Operators.{union as unite, pairs, meets, compositions, banded}
+use Rattle.pairs.specs.Pairs.{pairs}
+use Rattle.operators.specs.Operators.{union as unite, meets, compositions, banded}
 use Rattle.recording.specs.Reading.{tick, le16, le32, ticks, channels}
 use Rattle.recording.specs.Levels.{Shows}
 use Rattle.recording.specs.Runs.{Runs}
@@ -21,16 +23,17 @@ use Rattle.recording.specs.declared.Reading.the-variants.{Recorded}
 use Rattle.recording.proofs.Examples.{R as example}
 use Rattle.expression.specs.Expression.{Expression, depth}
 use Rattle.expression.specs.Refusal.{Accepted}
-use Rattle.expression.specs.Descent.{yes, branch, bind, starts, rest, expect, ranged, digits, number, upper, limits, postfixes, joining, read, height, descent}
+use Rattle.tokens.specs.Tokens.{yes, branch, bind, starts, rest, expect, ranged, digits, number, upper, limits}
+use Rattle.parser.specs.Descent.{postfixes, joining, read, height, descent}
 use Rattle.expression.specs.declared.Join.the-variants.{Union as bars}
-use Rattle.expression.specs.Readers.{width, wrong}
-use Rattle.expression.proofs.Complete.{whole-sound}
-use Rattle.expression.proofs.Parses.{right-length, accepted}
-use Rattle.evaluation.specs.Lists.{value, ended, Then.goes, runZones, Letter, Evaluates}
+use Rattle.parser.specs.Readers.{width, wrong}
+use Rattle.parser.proofs.Complete.{whole-sound}
+use Rattle.parser.proofs.Parses.{right-length, accepted}
+use Rattle.meaning.specs.Lists.{value, ended, Then.goes, runZones, Letter, Evaluates}
 use Rattle.finder.specs.declared.Outcome.the-variants.{Finished}
 use Rattle.finder.specs.Outcome.{Comes, room, words, fronted, cleared, FindAs}
-use Rattle.marked.specs.Marked.{R, Row, marked, Gives, Holds}
-use Rattle.finder.proofs.Turned.{recordings, drills, NoneOf, recording-call, drill-none, accepted-call}
+use Rattle.marked.specs.Marked.{R, Row, marked, Gives, RowHolds}
+use Rattle.finder.proofs.Outcomes.{recordings, drills, Without, recording-call, drill-none, accepted-call}
 use Rattle.finder.proofs.Calls.{find-unique}
 
 -- ---- a drill
@@ -55,7 +58,7 @@ passed {text} {e} form pass =
 -- .. and a call on it, with room for the list that it comes to, has one result.
 gives : {text : List ℕ} {e : Expression} {L : List Zone} {r : ℕ} → descent (joining bars) text ≡ yes e [] → Passes text e
     → Evaluates (Shows R) 0 (ticks R) e (value L r)
-    → (answer work : List ℤ) → length L * 6 ≤ length answer → room ≤ length work → Gives text 0 r L answer work
+    → (answer work : List ℤ) → length L * zone-words ≤ length answer → room ≤ length work → Gives text 0 r L answer work
 gives {text} {e} {L} {r} form pass evaluates answer work long roomy =
     record { outcome = Finished (length L) r; returns = refl; call = call; only = λ o a w h. find-unique h call }
   where
@@ -65,14 +68,14 @@ gives {text} {e} {L} {r} form pass evaluates answer work long roomy =
     comes : Comes R text (value L r)
     comes = record { drill = e; form = taken .form; evaluates = evaluates }
 
-    none : NoneOf R text (length answer) (length work) (recordings ++ drills)
+    none : Without R text (length answer) (length work) (recordings ++ drills)
     none = drill-none R text (length answer) (length work) (recording-call R text (length answer) (length work) (Recorded _) (example .read)) taken
 
     call : FindAs R text answer work (Finished (length L) r) (fronted (words L) answer) (cleared work)
     call =
         record {
           outcome = accepted-call R text (length answer) (length work) none roomy comes long;
-          buffers = record { list = L; comes = comes; count = refl; answer-filled = refl; work-cleared = refl };
+          buffers = record { finishes = record { list = L; means = comes; count = refl }; answer-filled = refl; work-cleared = refl };
         }
 
 -- The list of a letter, from its runs.
@@ -85,16 +88,16 @@ spelt m = record { runs = _; maximal = m; built = refl }
 infixr 30 _⨾_
 data All : List Row → Type 0 where
   done : All []
-  _⨾_ : {x : Row} {xs : List Row} → Holds x → All xs → All (x ∷ xs)
+  _⨾_ : {x : Row} {xs : List Row} → RowHolds x → All xs → All (x ∷ xs)
 
-each : {x : Row} {xs : List Row} → All xs → List·Memᴰ x xs → Holds x
+each : {x : Row} {xs : List Row} → All xs → List·Memᴰ x xs → RowHolds x
 each done m = absurd (not-nil m)
-each (h ⨾ hs) (List·Memᴰ·head e) = subst Holds (sym e) h
+each (h ⨾ hs) (List·Memᴰ·head e) = subst RowHolds (sym e) h
 each (h ⨾ hs) (List·Memᴰ·tail m) = each hs m
 
 -- Every row of the table holds. A drill's proof is that its text is read, that it passes the tests, and how its list comes of those of `a` and
 -- `!a`; the rest is computed.
-pub marked-set : (x : Row) → List·Memᴰ x marked → Holds x
+pub marked-set : (x : Row) → List·Memᴰ x marked → RowHolds x
 unfolding tick le32 le16 descent read height branch bind starts rest expect ranged digits number upper limits postfixes width wrong depth
     lesser _⊕_ tighter where-room tighten both meet across compose run diagonal everything limited bandOf covered outside insert insert-each unite pairs meets compositions banded
 marked-set x =

@@ -5,11 +5,12 @@ use Prim.Native.Nat.{ℕ, _*_, _≤_}
 use Prim.Native.String.{String}
 use lib.IntN.{ℤ, pos, negℤ}
 use lib.ListN.{length as count}
-use Rattle.zone.specs.declared.Limit.{Limit}
-use Rattle.zone.specs.declared.Limit.the-variants.{AtMost, Below}
+use Rattle.limit.specs.declared.Limit.{Limit}
+use Rattle.limit.specs.declared.Limit.the-variants.{AtMost, Below}
 use Rattle.zone.specs.declared.Zone.{Zone}
+use Rattle.words.specs.Words.{zone-words}
 use Rattle.recording.specs.Reading.{tick}
-use Rattle.finder.specs.Text.{ascii}
+use Rattle.text.specs.Text.{ascii}
 use Rattle.finder.specs.declared.Outcome.{Outcome}
 use Rattle.finder.specs.Outcome.{returned, room, words, fronted, cleared, FindAs}
 
@@ -83,7 +84,7 @@ marked =
 -- ---- what a row says
 
 -- of a drill: with enough work words and six answer words a zone, whatever both buffers hold
-abbrev pub Holds : Row → Type 0
-Holds (drill text number n rounds r zones L) =
-    (answer work : List ℤ) → count L * 6 ≤ count answer → room ≤ count work → Gives (ascii text) n r L answer work
-Holds (ms ms-is-tick k) = tick ms ≡ k
+abbrev pub RowHolds : Row → Type 0
+RowHolds (drill text number n rounds r zones L) =
+    (answer work : List ℤ) → count L * zone-words ≤ count answer → room ≤ count work → Gives (ascii text) n r L answer work
+RowHolds (ms ms-is-tick k) = tick ms ≡ k

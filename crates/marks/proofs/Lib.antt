@@ -1,2 +1,3 @@
-pub mod Lengths
+-- `Files` goes from the buffers to the files, `Printing` from a call to the printed text.
+pub mod Files
 pub mod Printing

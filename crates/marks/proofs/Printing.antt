@@ -1,5 +1,5 @@
 -- `marks` has room for the sheet of every outcome.
-use mathlib.Core.Path.{_≡_, sym, ap, subst, _∙_}
+use mathlib.Core.Path.{_≡_, ap, subst, _∙_}
 use mathlib.Core.List.{List}
 use Prim.Native.Nat.{ℕ, _*_, _≤_}
 use native.Mathlib.Decide.{decLe}
@@ -10,32 +10,35 @@ use Rattle.io.specs.Counts.{Counts}
 use Rattle.zone.proofs.Laws.{ranged-more}
 use Rattle.finder.specs.declared.Returned.{Returned}
 use Rattle.finder.specs.declared.Outcome.{Outcome}
-use Rattle.finder.specs.declared.Outcome.the-variants.{Finished}
 use Rattle.finder.specs.Outcome.{returned, room, frontOf, FindAs}
-use Rattle.finder.proofs.Causes.{call-accepted}
+use Rattle.finder.proofs.Causes.{zero-finished}
 use Rattle.finder.proofs.Sizes.{few-zones, few-rounds, front-length, front-ranged}
-use Rattle.sheet.specs.declared.Written.{Written}
-use Rattle.sheet.specs.declared.Written.the-variants.{Bytes, TooSmall, FrontShort}
+use Rattle.text.specs.declared.Written.{Written}
+use Rattle.text.specs.declared.Written.the-variants.{Bytes, TooSmall, FrontShort}
 use Rattle.sheet.specs.Sheet.{sheet}
 use Rattle.sheet.specs.Buffer.{answer, left}
 use Rattle.sheet.proofs.Sheet.{refusal-sheet, finished-sheet, fits, printed}
 use Rattle.sheet.proofs.Bounds.{Held, refused-length, finished-length}
-use Rattle.marks.specs.Marks.{MarkedAs}
+use Rattle.marks.specs.Marks.{answer-words, MarkedAs}
 
-module _ {bytes text : List ℕ} {o : Outcome} {answer₁ work₁ : List ℤ} (call : FindAs bytes text (replicate 768 (pos 0)) (replicate room (pos 0)) o answer₁ work₁) where
+-- no sheet is longer
+abbrev longest : ℕ
+longest = 12_288
+
+module _ {bytes text : List ℕ} {o : Outcome} {answer₁ work₁ : List ℤ} (call : FindAs bytes text (replicate answer-words (pos 0)) (replicate room (pos 0)) o answer₁ work₁) where
   abbrev front : List ℤ
   front = frontOf answer₁ (returned o .zones)
 
   -- all words of the listed zones are there, and the text is short
-  roomy : (returned o .zones * 6 ≤ length front) × (length (sheet (returned o) front) ≤ 12_288)
+  roomy : (returned o .zones * 6 ≤ length front) × (length (sheet (returned o) front) ≤ longest)
   roomy = elim (decLe 1 (returned o .number)) [ yes h ↦ refused h | no h ↦ finished (omega arith) ]
     where
-      refused : 1 ≤ returned o .number → (returned o .zones * 6 ≤ length front) × (length (sheet (returned o) front) ≤ 12_288)
+      refused : 1 ≤ returned o .number → (returned o .zones * 6 ≤ length front) × (length (sheet (returned o) front) ≤ longest)
       refused h = let r = refusal-sheet o h front in (omega (arith, r .1), rw (r .0) (omega (arith, refused-length (returned o .number) (r .2))))
 
-      finished : returned o .number ≡ 0 → (returned o .zones * 6 ≤ length front) × (length (sheet (returned o) front) ≤ 12_288)
+      finished : returned o .number ≡ 0 → (returned o .zones * 6 ≤ length front) × (length (sheet (returned o) front) ≤ longest)
       finished e =
-          let c = subst (λ (p : Outcome). FindAs bytes text (replicate 768 (pos 0)) (replicate room (pos 0)) p answer₁ work₁) (call-accepted (call .outcome) e) call in
+          let c = subst (λ (p : Outcome). FindAs bytes text (replicate answer-words (pos 0)) (replicate room (pos 0)) p answer₁ work₁) (zero-finished o e) call in
           let held : Held front (returned o .zones) = λ z m. ranged-more (omega arith) (front-ranged c z m) in
           let n = few-zones c in
           let r = few-rounds c in
@@ -47,7 +50,7 @@ module _ {bytes text : List ℕ} {o : Outcome} {answer₁ work₁ : List ℤ} (c
   Prints out TooSmall = ⊥
   Prints out FrontShort = ⊥
 
-  pub prints : {told : Returned} {words : List ℤ} (out out′ : List ℕ) (w : Written) → told ≡ returned o → words ≡ frontOf answer₁ (told .zones) → 12_288 ≤ length out
+  pub prints : {told : Returned} {words : List ℤ} (out out′ : List ℕ) (w : Written) → told ≡ returned o → words ≡ frontOf answer₁ (told .zones) → longest ≤ length out
       → w ≡ answer (returned o) words (length out) → out′ ≡ left (returned o) words out → Prints out′ w
   prints {told} {words} out out′ w t f long a b =
       let g : words ≡ front = f ∙ ap (λ (r : Returned). frontOf answer₁ (r .zones)) t in

@@ -1,1 +1,2 @@
+-- What the contract of `mark` cites: definitions alone.
 pub mod Marks

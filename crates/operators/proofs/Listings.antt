@@ -15,9 +15,9 @@ use Rattle.list.specs.Insert.{Built, overflow, insert-each}
 use Rattle.operators.specs.Operators.{union}
 use Rattle.list.specs.Slots.{listAt, Kept, Sound}
 use Rattle.operators.specs.Listing.{Listing}
-use Rattle.operators.specs.Steps.{Growth}
+use Rattle.pairs.specs.Growth.{Growth}
 use Rattle.list.proofs.Slots.{kept-within, kept-written}
-use Rattle.operators.proofs.Loops.{then, insert-each-append}
+use Rattle.pairs.proofs.Loops.{then, insert-each-append}
 
 pub listing : {built : Built} {before : Bool} {L : List Zone} {vs : List ℤ} {target n : ℕ} {changed : Bool} → Growth built before L vs target n changed → Listing built vs target n
 listing g = record { list = g .list; value = g .value; holds = g .holds }
@@ -29,8 +29,8 @@ module _ (A B : List Zone) where
   unfolding union
   in-turn = insert-each-append (map zone A) (map zone B) []
 
-  pub union-left-over : insert-each (map zone A) [] ≡ overflow → union A B ≡ overflow
-  union-left-over e = in-turn ∙ ap (λ (r : Built). then r (insert-each (map zone B))) e
+  pub union-left-overflow : {P : Type 0} → (insert-each (map zone A) [] ≡ overflow) × P → (union A B ≡ overflow) × P
+  union-left-overflow o = (in-turn ∙ ap (λ (r : Built). then r (insert-each (map zone B))) (o .0), o .1)
 
   -- after the left zones: B′ is the right list, read from the words as they are then
   module _ (ws us : List ℤ) (target k : ℕ) {before changed : Bool} (g : Growth (insert-each (map zone A) (listAt ws target 0)) before (listAt ws target 0) us target k changed) (B′ : List Zone) (e : B′ ≡ B) where
@@ -38,8 +38,8 @@ module _ (A B : List Zone) where
     unfolding listAt
     then-right = in-turn ∙ ap (λ (r : Built). then r (insert-each (map zone B))) (g .value) ∙ ap (insert-each (map zone B)) (sym (g .holds .zones)) ∙ ap (λ (C : List Zone). insert-each (map zone C) (listAt us target k)) (sym e)
 
-    pub union-right-over : insert-each (map zone B′) (listAt us target k) ≡ overflow → union A B ≡ overflow
-    union-right-over f = then-right ∙ f
+    pub union-right-overflow : {P : Type 0} → (insert-each (map zone B′) (listAt us target k) ≡ overflow) × P → (union A B ≡ overflow) × P
+    union-right-overflow o = (then-right ∙ o .0, o .1)
 
     pub union-listing : {vs : List ℤ} {n : ℕ} {between last : Bool} → Growth (insert-each (map zone B′) (listAt us target k)) between (listAt us target k) vs target n last → Listing (union A B) vs target n
     union-listing w = record { list = w .list; value = then-right ∙ w .value; holds = w .holds }

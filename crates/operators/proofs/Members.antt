@@ -3,15 +3,17 @@ use mathlib.Core.Path.{sym, subst}
 use mathlib.Core.Logic.{_↔_}
 use mathlib.Core.List.{List, List·Memᴰ}
 use Prim.Native.Nat.{ℕ}
-use Rattle.zone.specs.Time.{Time}
+use Rattle.limit.specs.Time.{Time}
 use Rattle.zone.specs.declared.Zone.{Zone}
 use Rattle.zone.specs.declared.MaybeZone.{MaybeZone}
 use Rattle.zone.specs.Zone.{InMaybe}
 use Rattle.zone.proofs.Laws.{meet-members, compose-members}
-use Rattle.operators.specs.Operators.{Operation, Meet, Compose, apply, pairs}
+use Rattle.pairs.specs.declared.Operation.{Operation}
+use Rattle.pairs.specs.declared.Operation.the-variants.{Meet, Compose}
+use Rattle.pairs.specs.Pairs.{apply, pairs}
 use Rattle.list.specs.Members.{Lies, AllProper}
 use Rattle.list.proofs.Coverage.{Offered}
-use Rattle.operators.proofs.Pairs.{pairs-mem, mem-pairs}
+use Rattle.pairs.proofs.Pairs.{pairs-mem, mem-pairs}
 use Rattle.list.proofs.Members.{lies}
 
 -- ---- the answers of a pair loop

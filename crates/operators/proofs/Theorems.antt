@@ -4,16 +4,18 @@ use mathlib.Core.Path.{_≡_, subst}
 use mathlib.Core.Logic.{_↔_, _⊎_, ⊎-map, ⊎-elim, Iff·trans}
 use mathlib.Core.List.{List, [], _∷_, _++_, map, List·Memᴰ·not-nil as not-nil, List·Memᴰ·append-cases as append-cases}
 use Prim.Native.Nat.{ℕ}
-use Rattle.zone.specs.Time.{Time}
+use Rattle.limit.specs.Time.{Time}
 use Rattle.zone.specs.declared.Zone.{Zone}
 use Rattle.zone.specs.declared.MaybeZone.{MaybeZone}
 use Rattle.zone.specs.declared.MaybeZone.the-variants.{Zone as zone, Empty as empty}
 use Rattle.zone.specs.Zone.{InMaybe}
 use Rattle.zone.proofs.Laws.{proper-meet, proper-compose}
 use Rattle.list.specs.Insert.{listed, insert-each}
-use Rattle.operators.specs.Operators.{pairs, Meet, Compose, union, meets, compositions, banded}
+use Rattle.pairs.specs.Pairs.{pairs}
+use Rattle.pairs.specs.declared.Operation.the-variants.{Meet, Compose}
+use Rattle.operators.specs.Operators.{union, meets, compositions, banded}
 use Rattle.list.specs.Members.{Lies, AllProper}
-use Rattle.operators.proofs.Pairs.{pairs-mem}
+use Rattle.pairs.proofs.Pairs.{pairs-mem}
 use Rattle.list.proofs.Members.{nothing-lies, lies-one, mem-zones, offered-zones, offered-append}
 use Rattle.operators.proofs.Members.{offered-meets, offered-compositions}
 use Rattle.list.proofs.Theorems.{WellFormed, built-lies, built-well}

@@ -3,23 +3,13 @@ use mathlib.Core.List.{List, [], _∷_, _++_, map}
 use Rattle.zone.specs.declared.Zone.{Zone}
 use Rattle.zone.specs.declared.MaybeZone.{MaybeZone}
 use Rattle.zone.specs.declared.MaybeZone.the-variants.{Zone as zone, Empty as empty}
-use Rattle.zone.specs.Zone.{meet, compose}
 use Rattle.list.specs.Insert.{Built, listed, insert-each}
-pub use Rattle.operators.specs.declared.Operation.{Operation}
-pub use Rattle.operators.specs.declared.Operation.the-variants.{Meet, Compose}
+use Rattle.pairs.specs.Pairs.{pairs}
+use Rattle.pairs.specs.declared.Operation.the-variants.{Meet, Compose}
 
 -- `|`: "put the left zones, then the right ones, into an empty list"
 unfoldable pub union : List Zone → List Zone → Built
 union A B = insert-each (map zone A ++ map zone B) []
-
-abbrev pub apply : Operation → Zone → Zone → MaybeZone
-apply Meet z w = meet z w
-apply Compose z w = compose z w
-
--- "for each left zone, for each right zone", the meet or the composition
-unfoldable pub pairs : Operation → List Zone → List Zone → List MaybeZone
-pairs op [] B = []
-pairs op (z ∷ A) B = map (apply op z) B ++ pairs op A B
 
 -- `&`
 unfoldable pub meets : List Zone → List Zone → Built

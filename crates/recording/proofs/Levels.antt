@@ -12,7 +12,8 @@ use borrow.Author.Tests.{ltb-true, ltb-false, leb-true, leb-false, le-leb, lt-le
 use lib.Dec.{leb, ltb}
 use Rattle.recording.specs.Reading.{tick, ticks, time, levels, changes, ReadAs}
 use Rattle.recording.specs.Levels.{levelIn, Stands, Shows, reported, unreported}
-use Rattle.recording.specs.Scan.{begins, leaves, sameLevel}
+use Rattle.recording.specs.Scan.{begins}
+use Rattle.recording.specs.Search.{sameLevel, leaves}
 use Rattle.recording.specs.declared.Level.{Level}
 use Rattle.recording.specs.declared.Level.the-variants.{High, Low}
 use Rattle.recording.specs.declared.Dimensions.{Dimensions}
@@ -120,7 +121,7 @@ module _ (bytes : List ℕ) where
   by-change channel level k (suc j) h b = rw (le-leb _ _ (rw (begins-change (suc j) (omega arith) h) at b))
 
 -- of bytes that were read as a recording
-module _ {bytes : List ℕ} {r : Dimensions} (read : ReadAs bytes r) where
+module _ {bytes : List ℕ} {size : Dimensions} (read : ReadAs bytes size) where
   -- no change holds before the one before it
   begins-next : (j : ℕ) → begins bytes j ≤ begins bytes (j + 1)
   unfolding begins

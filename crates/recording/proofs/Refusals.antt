@@ -1,4 +1,4 @@
--- What reading answers, in the words of the table of refusals: each number is given exactly when its cause holds and no earlier one does.
+-- The tests of a recording say what its causes say; reading has one answer; and what is known of bytes that were read.
 use mathlib.Core.Path.{_≡_, refl, sym, ap, subst, _∙_}
 use mathlib.Core.Bool.{Bool, true, false, cond, not, _&&_, _||_, and-false}
 use mathlib.Core.List.{List}
@@ -12,7 +12,8 @@ use borrow.Author.Tests.{ltb-true, ltb-false, lt-ltb, leb-true, leb-false, le-le
 use lib.Dec.{leb, ltb, eqb}
 use lib.Pow.{shl-exact}
 use lib.ListN.{length}
-use Rattle.recording.specs.Reading.{Sized, Headed, Changed, AllChanged, ReadAs, sized, headed, changed, allChanged, reading, number, numbers, marked, headMark, changeMark, duration, channels, changes, time, levels, byteAt, ticks}
+use Rattle.recording.specs.Reading.{Sized, Headed, Changed, AllChanged, RecordingCause, wrong-length, wrong-head, wrong-change, Refused, ReadAs, ReadingAs, dimensions, marked, headMark, changeMark, duration, channels, changes, time, levels, byteAt, ticks}
+use Rattle.recording.specs.Tests.{sized, headed, changed, allChanged}
 use Rattle.recording.specs.declared.Dimensions.{Dimensions}
 use Rattle.recording.specs.declared.Reading.{Reading}
 use Rattle.recording.specs.declared.Reading.the-variants.{WrongLength, WrongHead, WrongChange, Recorded}
@@ -116,6 +117,10 @@ off {b = false} t n = refl
 no-way : {b : Bool} {A : Type 0} → b ≡ false → Tests b A → A → ⊥
 no-way p t h = let q = t .1 h in let z : _≡_ {A = ℕ} 0 1 = cc in omega arith
 
+on : {b : Bool} {A : Type 0} → Tests b A → ¬ ¬ A → b ≡ true
+on {b = true} t n = refl
+on {b = false} t n = absurd (n (no-way refl t))
+
 agree : {a b : Bool} {A : Type 0} → Tests a A → Tests b A → a ≡ b
 agree {a = true} s t = sym (t .1 (s .0 refl))
 agree {a = false} s t = sym (off t (no-way refl s))
@@ -154,89 +159,91 @@ one-more bytes j a e = rw (add-one j) (rw (a, e′, lt-leb (suc j) 0 (omega arit
         let above : 0 < j → time bytes j < time bytes (suc j) = λ k. rw before at (h .above (omega arith)) in
         rw (above-is 0 j (time bytes j) (duration bytes) .1 (λ k. omega (arith, h .below, above k)))
 
--- THE ANSWERS
+-- THE ANSWER
 
--- when an answer is due: its cause holds, and no earlier one; or none holds, and the numbers are those of the bytes
-abbrev pub Due : ℕ → List ℕ → Reading → Type 0
-Due largest bytes WrongLength = Sized largest bytes → ⊥
-Due largest bytes WrongHead = Sized largest bytes × (Headed bytes → ⊥)
-Due largest bytes WrongChange = Sized largest bytes × Headed bytes × (AllChanged bytes → ⊥)
-Due largest bytes (Recorded r) = Sized largest bytes × Headed bytes × AllChanged bytes × (r ≡ numbers bytes)
+-- what reading answers, computed: each cause over the whole input before the next
+unfoldable pub reading : ℕ → List ℕ → Reading
+reading largest bytes =
+    cond (sized largest bytes)
+    (cond (headed bytes)
+    (cond (allChanged bytes (changes bytes))
+    (Recorded (dimensions bytes)) WrongChange) WrongHead)
+    WrongLength
+
+-- the cause of number m fails, if what that number asks is met
+met : {largest : ℕ} {bytes : List ℕ} (m : ℕ) → (m ≡ 1 → Sized largest bytes) → (m ≡ 2 → Headed bytes) → (m ≡ 3 → AllChanged bytes) → ¬ RecordingCause largest bytes m
+met m one two three (wrong-length x) = x (one refl)
+met m one two three (wrong-head x) = x (two refl)
+met m one two three (wrong-change x) = x (three refl)
+
+-- a wrong length is the first cause, whatever else is wrong
+pub refused-length : {largest : ℕ} {bytes : List ℕ} → ¬ Sized largest bytes → Refused largest bytes 1
+refused-length n = record { holds = wrong-length n; first = λ m l. met m (λ e. absurd (omega arith)) (λ e. absurd (omega arith)) (λ e. absurd (omega arith)) }
 
 module _ (largest : ℕ) (bytes : List ℕ) where
-  due : Due largest bytes (reading largest bytes)
+  given : ReadingAs largest bytes (reading largest bytes)
   unfolding reading
-  due = go (sized largest bytes) (sized-is largest bytes) (headed bytes) (headed-is bytes)
+  given = go (sized largest bytes) (sized-is largest bytes) (headed bytes) (headed-is bytes)
       (allChanged bytes (changes bytes)) (all-is bytes (changes bytes))
     where
       go : (s : Bool) → Tests s (Sized largest bytes) → (h : Bool) → Tests h (Headed bytes) → (a : Bool) → Tests a (AllChanged bytes)
-          → Due largest bytes (cond s (cond h (cond a (Recorded (numbers bytes)) WrongChange) WrongHead) WrongLength)
-      go true s true h true a = (s .0 refl, h .0 refl, a .0 refl, refl)
-      go true s true h false a = (s .0 refl, h .0 refl, no-way refl a)
-      go true s false h a _ = (s .0 refl, no-way refl h)
-      go false s h _ a _ = no-way refl s
+          → ReadingAs largest bytes (cond s (cond h (cond a (Recorded (dimensions bytes)) WrongChange) WrongHead) WrongLength)
+      go true s true h true a = (
+        λ m. met m (λ _. s .0 refl) (λ _. h .0 refl) (λ _. a .0 refl),
+        record { some = s .0 refl .some; whole = s .0 refl .whole; headed = h .0 refl; changed = a .0 refl; measured = refl },
+      )
+      go true s true h false a =
+          record { holds = wrong-change (no-way refl a); first = λ m l. met m (λ _. s .0 refl) (λ _. h .0 refl) (λ e. absurd (omega arith)) }
+      go true s false h a _ =
+          record { holds = wrong-head (no-way refl h); first = λ m l. met m (λ _. s .0 refl) (λ e. absurd (omega arith)) (λ e. absurd (omega arith)) }
+      go false s h _ a _ = refused-length (no-way refl s)
 
-  answer : (o : Reading) → Due largest bytes o → reading largest bytes ≡ o
+  answer : (a : Reading) → ReadingAs largest bytes a → reading largest bytes ≡ a
   unfolding reading
-  answer WrongLength n = rw (off (sized-is largest bytes) n)
-  answer WrongHead d = rw (sized-is largest bytes .1 (d .0), off (headed-is bytes) (d .1))
-  answer WrongChange d =
-      rw (sized-is largest bytes .1 (d .0), headed-is bytes .1 (d .1), off (all-is bytes (changes bytes)) (d .2))
-  answer (Recorded r) d =
-      rw (sized-is largest bytes .1 (d .0), headed-is bytes .1 (d .1), all-is bytes (changes bytes) .1 (d .2), d .3)
+  answer WrongLength r = rw (off (sized-is largest bytes) (λ s. met 1 (λ _. s) (λ e. absurd (omega arith)) (λ e. absurd (omega arith)) (r .holds)))
+  answer WrongHead r =
+      rw (on (sized-is largest bytes) (λ x. r .first 1 (omega arith) (wrong-length x)), off (headed-is bytes) (λ h. met 2 (λ e. absurd (omega arith)) (λ _. h) (λ e. absurd (omega arith)) (r .holds)))
+  answer WrongChange r =
+      rw (on (sized-is largest bytes) (λ x. r .first 1 (omega arith) (wrong-length x)), on (headed-is bytes) (λ x. r .first 2 (omega arith) (wrong-head x)), off (all-is bytes (changes bytes)) (λ a. met 3 (λ e. absurd (omega arith)) (λ e. absurd (omega arith)) (λ _. a) (r .holds)))
+  answer (Recorded size) r =
+      rw (on (sized-is largest bytes) (λ x. r .0 1 (wrong-length x)), headed-is bytes .1 (r .1 .headed), all-is bytes (changes bytes) .1 (r .1 .changed), r .1 .measured)
 
-  -- each answer, and so each refusal's number, is given exactly when it is due
-  pub exactly : (o : Reading) → (reading largest bytes ≡ o) ↔ Due largest bytes o
-  exactly o = (λ e. subst (Due largest bytes) e due, answer o)
+  -- an answer is the computed one exactly if it is due
+  pub exactly : (a : Reading) → (reading largest bytes ≡ a) ↔ ReadingAs largest bytes a
+  exactly a = (λ e. subst (ReadingAs largest bytes) e given, answer a)
 
-same-number : (a b : Reading) → 0 < number b → number a ≡ number b → a ≡ b
-same-number WrongLength WrongLength h e = refl
-same-number WrongHead WrongHead h e = refl
-same-number WrongChange WrongChange h e = refl
-same-number WrongLength WrongHead h e = absurd (omega arith)
-same-number WrongLength WrongChange h e = absurd (omega arith)
-same-number WrongHead WrongLength h e = absurd (omega arith)
-same-number WrongHead WrongChange h e = absurd (omega arith)
-same-number WrongChange WrongLength h e = absurd (omega arith)
-same-number WrongChange WrongHead h e = absurd (omega arith)
-same-number (Recorded r) WrongLength h e = absurd (omega arith)
-same-number (Recorded r) WrongHead h e = absurd (omega arith)
-same-number (Recorded r) WrongChange h e = absurd (omega arith)
-same-number a (Recorded r) h e = absurd (omega arith)
+  -- all bytes have one answer
+  pub reading-exists : (a : Reading) × ReadingAs largest bytes a
+  reading-exists = (reading largest bytes, given)
 
--- a refusal's number is given exactly when its cause holds and no earlier one does
-pub refused : (largest : ℕ) (bytes : List ℕ) (o : Reading) → 0 < number o → (number (reading largest bytes) ≡ number o) ↔ Due largest bytes o
-refused largest bytes o h =
-    (λ e. exactly largest bytes o .0 (same-number (reading largest bytes) o h e), λ d. ap number (exactly largest bytes o .1 d))
+  pub reading-unique : (a b : Reading) → ReadingAs largest bytes a → ReadingAs largest bytes b → a ≡ b
+  reading-unique a b p q = sym (answer a p) ∙ answer b q
 
 -- what is known of bytes that were read as a recording
-module _ {bytes : List ℕ} {r : Dimensions} (read : ReadAs bytes r) where
-  read-due : Due (read .largest) bytes (Recorded r)
-  read-due = exactly (read .largest) bytes (Recorded r) .0 (read .read)
-
-  -- its head and its changes are right, and the numbers are those of the bytes
+module _ {bytes : List ℕ} {size : Dimensions} (read : ReadAs bytes size) where
+  -- its head and its changes are right, and its dimensions are those of the bytes
   pub read-headed : Headed bytes
-  read-headed = read-due .1
+  read-headed = read .headed
 
   pub read-changed : AllChanged bytes
-  read-changed = read-due .2
+  read-changed = read .changed
 
-  pub read-numbers : r ≡ numbers bytes
-  read-numbers = read-due .3
+  pub read-numbers : size ≡ dimensions bytes
+  read-numbers = read .measured
 
-  pub read-count : r .changes ≡ changes bytes
-  read-count = ap (λ (q : Dimensions). q .changes) read-numbers
+  pub read-count : size .changes ≡ changes bytes
+  read-count = ap (λ (d : Dimensions). d .changes) read-numbers
 
-  pub read-end : r .ticks ≡ ticks bytes
-  read-end = ap (λ (q : Dimensions). q .ticks) read-numbers
+  pub read-end : size .ticks ≡ ticks bytes
+  read-end = ap (λ (d : Dimensions). d .ticks) read-numbers
 
   -- change j lies within the bytes, and its time is small
   pub read-room : (j : ℕ) → j ≤ changes bytes → 8 * j + 8 ≤ length bytes
-  read-room j h = let s = read-due .0 in omega (arith, s .some, s .whole)
+  read-room j h = omega (arith, read .some, read .whole)
 
   pub read-time : (j : ℕ) → 0 < j → j ≤ changes bytes → time bytes j ≤ 10000000
   read-time j a b = omega (arith, read-changed j a b .below, read-headed .short)
 
   -- a recording has 1 to 1,000,000 ticks
-  pub read-ticks : (1 ≤ r .ticks) × (r .ticks ≤ 1000000)
+  pub read-ticks : (1 ≤ size .ticks) × (size .ticks ≤ 1000000)
   read-ticks = rw read-numbers (tick-range (read-headed .long) (read-headed .short))

@@ -8,7 +8,8 @@ use native.Mathlib.Decide.{decLe}
 use native.Mathlib.Omega.{arith}
 use Rattle.recording.specs.Reading.{ticks, changes, ReadAs}
 use Rattle.recording.specs.Levels.{Shows, reported, unreported}
-use Rattle.recording.specs.Scan.{begins, leaves, Answer, Sought, NextRun}
+use Rattle.recording.specs.Scan.{begins, NextRun}
+use Rattle.recording.specs.Search.{leaves, Answer, Sought}
 use Rattle.recording.specs.declared.Level.{Level}
 use Rattle.recording.specs.declared.Dimensions.{Dimensions}
 use Rattle.recording.specs.declared.Cursor.{Cursor}
@@ -47,7 +48,7 @@ early bytes i h = elim (decLe i (changes bytes)) [ yes k ↦ k | no k ↦ absurd
     late : begins bytes i ≡ ticks bytes → ⊥
     late e = omega arith
 
-module _ {bytes : List ℕ} {r : Dimensions} (read : ReadAs bytes r) {channel : ℕ} {level : Level} {from to j : ℕ} {wanted : Bool} where
+module _ {bytes : List ℕ} {size : Dimensions} (read : ReadAs bytes size) {channel : ℕ} {level : Level} {from to j : ℕ} {wanted : Bool} where
   -- at change j nothing was passed
   pub seek-start : Seeking bytes channel level from to j wanted j
   seek-start = record { ahead = omega arith; passed = λ k _ _ a b. absurd (empty k a b) }
@@ -78,7 +79,7 @@ module _ {bytes : List ℕ} {r : Dimensions} (read : ReadAs bytes r) {channel : 
       no-more : begins bytes i < to → ⊥
       no-more q = omega (arith, begins-end bytes i l)
 
-module _ {bytes : List ℕ} {r : Dimensions} (read : ReadAs bytes r) {channel : ℕ} {level : Level} {from to end : ℕ} {cursor : Cursor}
+module _ {bytes : List ℕ} {size : Dimensions} (read : ReadAs bytes size) {channel : ℕ} {level : Level} {from to end : ℕ} {cursor : Cursor}
     (cut : end ≡ min to (ticks bytes)) {f : ℕ} (first : Sought bytes channel level from end (cursor .change) true f) where
   -- no change before the end leaves the channel at the level
   pub next-none : end ≤ begins bytes f → NextRun bytes channel level from to cursor None

@@ -3,3 +3,5 @@ pub mod Reading
 pub mod Levels
 pub mod Runs
 pub mod Scan
+pub mod Tests
+pub mod Search

@@ -1,9 +1,9 @@
 -- The bytes of a recording: its records, what makes one wrong, and what reading answers.
 use mathlib.Core.Path.{_≡_}
-use mathlib.Core.Bool.{Bool, true, cond, _&&_, _||_}
+use mathlib.Core.Bool.{Bool, true, _&&_}
 use mathlib.Core.List.{List, [], _∷_}
-use Prim.Native.Nat.{ℕ, zero, suc, _+_, _-_, _*_, _/_, _%_, _^_, _≤_, _<_}
-use lib.Dec.{leb, ltb, eqb}
+use Prim.Native.Nat.{ℕ, _+_, _-_, _*_, _/_, _%_, _^_, _≤_, _<_}
+use lib.Dec.{eqb}
 use lib.ListN.{length, getD}
 use Rattle.recording.specs.declared.Dimensions.{Dimensions}
 use Rattle.recording.specs.declared.Reading.{Reading}
@@ -13,6 +13,7 @@ use Rattle.recording.specs.declared.Reading.the-variants.{WrongLength, W
 unfoldable pub tick : ℕ → ℕ
 tick m = (m + 5) / 10
 
+-- the byte at a place, 0 past the end
 abbrev pub byteAt : List ℕ → ℕ → ℕ
 byteAt bytes at = getD bytes at 0
 
@@ -54,13 +55,13 @@ levels bytes j = le16 bytes (8 * j + 6)
 abbrev pub ticks : List ℕ → ℕ
 ticks bytes = tick (duration bytes)
 
--- no cause 1: recording of length 0, over the largest size or not a multiple of 8
+-- a right length: not 0, not over the largest, a multiple of 8
 pub record Sized (largest : ℕ) (bytes : List ℕ) : Type 0 where
   pub some : 0 < length bytes
   pub within : length bytes ≤ largest
   pub whole : length bytes % 8 ≡ 0
 
--- no cause 2: mark 44 52, duration 10 to 10,000,000, channel count 1 to 16, a zero byte
+-- a right head: mark 44 52, duration 10 to 10,000,000, channel count 1 to 16, a zero byte
 pub record Headed (bytes : List ℕ) : Type 0 where
   pub mark : marked bytes 0 headMark ≡ true
   pub long : 10 ≤ duration bytes
@@ -76,53 +77,49 @@ pub record Changed (bytes : List ℕ) (j : ℕ) : Type 0 where
   pub above : 1 < j → time bytes (j - 1) < time bytes j
   pub quiet : levels bytes j / 2 ^ channels bytes ≡ 0
 
--- no cause 3
+-- every change is right
 abbrev pub AllChanged : List ℕ → Type 0
 AllChanged bytes = (j : ℕ) → 0 < j → j ≤ changes bytes → Changed bytes j
 
--- the same as tests
-unfoldable pub sized : ℕ → List ℕ → Bool
-sized largest bytes = ltb 0 (length bytes) && (leb (length bytes) largest && eqb (length bytes % 8) 0)
+-- ---- which answer is given
 
-unfoldable pub headed : List ℕ → Bool
-headed bytes =
-    marked bytes 0 headMark
-    && ((leb 10 (duration bytes) && leb (duration bytes) 10000000)
-    && ((leb 1 (channels bytes) && leb (channels bytes) 16)
-    && eqb (byteAt bytes 7) 0))
+-- the cause of each number holds, of the bytes of a recording and the size that it may have at most
+pub data RecordingCause (largest : ℕ) (bytes : List ℕ) : ℕ → Type 0 where
+  -- "recording of length 0, over 32,768 or not a multiple of 8"
+  wrong-length : ¬ Sized largest bytes → RecordingCause largest bytes 1
+  -- "head wrong in any field"
+  wrong-head : ¬ Headed bytes → RecordingCause largest bytes 2
+  -- "a change wrong in any field"
+  wrong-change : ¬ AllChanged bytes → RecordingCause largest bytes 3
 
-unfoldable pub changed : List ℕ → ℕ → Bool
-changed bytes j =
-    marked bytes j changeMark
-    && (ltb (time bytes j) (duration bytes)
-    && ((leb j 1 || ltb (time bytes (j - 1)) (time bytes j))
-    && eqb (levels bytes j / 2 ^ channels bytes) 0))
+-- "Each is given when its cause holds and no earlier one does": n is the number of the first cause
+pub record Refused (largest : ℕ) (bytes : List ℕ) (n : ℕ) : Type 0 where
+  pub holds : RecordingCause largest bytes n
+  pub first : (m : ℕ) → m < n → ¬ RecordingCause largest bytes m
 
--- the changes 1 to n
-unfoldable pub allChanged : List ℕ → ℕ → Bool
-allChanged bytes zero = true
-allChanged bytes (suc n) = allChanged bytes n && changed bytes (suc n)
+-- what the head and the number of records say
+abbrev pub dimensions : List ℕ → Dimensions
+dimensions bytes = record { ticks = ticks bytes; channels = channels bytes; changes = changes bytes }
 
-abbrev pub numbers : List ℕ → Dimensions
-numbers bytes = record { ticks = ticks bytes; channels = channels bytes; changes = changes bytes }
+-- the bytes are a recording of these dimensions: whole records and at least one, nothing wrong in them
+pub record ReadAs (bytes : List ℕ) (size : Dimensions) : Type 0 where
+  pub some : 0 < length bytes
+  pub whole : length bytes % 8 ≡ 0
+  pub headed : Headed bytes
+  pub changed : AllChanged bytes
+  pub measured : size ≡ dimensions bytes
 
--- what reading answers: each cause over the whole input before the next, else the recording's numbers
-unfoldable pub reading : ℕ → List ℕ → Reading
-reading largest bytes =
-    cond (sized largest bytes)
-    (cond (headed bytes)
-    (cond (allChanged bytes (changes bytes))
-    (Recorded (numbers bytes)) WrongChange) WrongHead)
-    WrongLength
-
--- the number of each answer in the table of refusals, 0 where nothing is refused
+-- document 01's number of each answer, 0 being that of a recording that is read
 abbrev pub number : Reading → ℕ
 number WrongLength = 1
 number WrongHead = 2
 number WrongChange = 3
-number (Recorded r) = 0
+number (Recorded size) = 0
 
--- these bytes were read as the recording r
-pub record ReadAs (bytes : List ℕ) (r : Dimensions) : Type 0 where
-  pub largest : ℕ
-  pub read : reading largest bytes ≡ Recorded r
+-- The answer for bytes of which there may be so many. Refused: the number is that of the first cause. Read: no cause holds, and the dimensions
+-- are those of the bytes.
+abbrev pub ReadingAs : (largest : ℕ) (bytes : List ℕ) → Reading → Type 0
+ReadingAs largest bytes WrongLength = Refused largest bytes (number WrongLength)
+ReadingAs largest bytes WrongHead = Refused largest bytes (number WrongHead)
+ReadingAs largest bytes WrongChange = Refused largest bytes (number WrongChange)
+ReadingAs largest bytes (Recorded size) = ((n : ℕ) → ¬ RecordingCause largest bytes n) × ReadAs bytes size

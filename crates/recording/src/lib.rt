@@ -1,14 +1,17 @@
-// Switch recordings: reading one from its bytes, and the runs of ticks in which a channel has a level.
-// Nothing is assumed of the bytes that are read.
+// Switch recordings. `read` judges any bytes: they are turned back, by the table's number, or they are a recording of so many
+// ticks, channels and changes. Of a recording that was read, `next_run` gives the runs of ticks in which a channel has a
+// level, one after the other.
 
 ghost use mathlib.Core.Path.{_≡_};
 ghost use mathlib.Core.Bool.{_&&_, _||_};
 ghost use Prim.Native.Nat.{_+_, _-_, _*_, _^_, _≤_, _<_, min, max};
 ghost use lib.Dec.{leb, ltb};
 ghost use lib.ListN.{length};
-ghost use Rattle.recording.specs.Reading.{tick as tickOf, byteAt, le16 as le16At, le32 as le32At, marked as markedBy, duration as durationOf, channels as channelsOf, time as timeOf, sized as sizedBy, headed as headedBy, changed as changedBy, allChanged, reading, ticks as ticksOf, ReadAs};
+ghost use Rattle.recording.specs.Reading.{tick as tickOf, byteAt, le16 as le16At, le32 as le32At, marked as markedBy, duration as durationOf, channels as channelsOf, time as timeOf, ticks as ticksOf, ReadAs, ReadingAs};
 ghost use Rattle.recording.specs.Levels.{levelIn};
-ghost use Rattle.recording.specs.Scan.{sameLevel, leaves as leavesAt, begins as beginsAt, NextRun, Sought};
+ghost use Rattle.recording.specs.Scan.{begins as beginsAt, NextRun};
+ghost use Rattle.recording.specs.Tests.{sized as sizedBy, headed as headedBy, changed as changedBy, allChanged};
+ghost use Rattle.recording.specs.Search.{sameLevel, leaves as leavesAt, Sought};
 
 // A level of a channel.
 pub enum Level {
@@ -16,7 +19,7 @@ pub enum Level {
     Low,
 }
 
-// The numbers of a recording: its length in ticks, its channels, and its changes, which are the records 1 to `changes`.
+// The dimensions of a recording: its length in ticks, its channels, and its changes, which are the records 1 to `changes`.
 pub struct Dimensions {
     pub ticks: u32,
     pub channels: u8,
@@ -37,7 +40,8 @@ pub struct Run {
     pub end: u32,
 }
 
-// A place among the changes. Change 0 is the time before the first one.
+// A place among the changes. Change 0 is the time before the first one. Callers start there and pass on what they get:
+// which change a cursor names is free, and only its tick is promised.
 pub struct Cursor {
     pub change: usize,
 }
@@ -64,7 +68,9 @@ fn le16(bytes: &[u8], at: usize) -> u32
     requires { ⌜ at + 1 < length (now bytes) ⌝ }
     ensures { λ r. ⌜ (r ≡ le16At (now (bytes .entry)) at) × (r < 65536) × (byteAt (now (bytes .entry)) at < 256) ⌝ }
 {
-    wide(bytes[at]) + 256 * wide(bytes[at + 1])
+    let low = wide(bytes[at]);
+    let high = wide(bytes[at + 1]);
+    low + 256 * high
 }
 
 // The 4 bytes at a place, low byte first.
@@ -176,7 +182,7 @@ fn all_changed(bytes: &[u8], changes: usize, duration: u32, bits: u32) -> bool
 
 // Reads a recording of at most `largest` bytes. The length is judged first, then the head, then the changes.
 pub fn read(bytes: &[u8], largest: usize) -> Reading
-    ensures { λ r. ⌜ r ≡ reading largest (now (bytes .entry)) ⌝ }
+    ensures { λ r. ⌜ ReadingAs largest (now (bytes .entry)) r ⌝ }
 {
     if !sized(bytes, largest) {
         return Reading::WrongLength;

@@ -1,36 +1,23 @@
 -- How long a sheet can be.
-use mathlib.Core.Path.{_≡_, refl, sym, ap, subst}
-use mathlib.Core.Bool.{Bool, true, false}
+use mathlib.Core.Path.{_≡_, refl, sym, subst}
 use mathlib.Core.List.{List, [], _∷_, List·Memᴰ, List·Memᴰ·head, Memᴰ·append-left as append-left, Memᴰ·append-right as append-right}
-use Prim.Native.Nat.{ℕ, zero, suc, _+_, _*_, _/_, _^_, _≤_, _<_}
-use native.Mathlib.Nat.{pow-zero, pow-suc}
+use Prim.Native.Nat.{ℕ, zero, suc, _+_, _*_, _^_, _≤_, _<_}
 use native.Mathlib.Omega.{arith}
-use lib.Dec.{ltb}
 use lib.IntN.{ℤ, pos, negsuc, negℤ}
 use lib.ListN.{length, length-append}
 use lib.Signed.{mag}
-use borrow.Author.Tests.{ltb-true, ltb-false}
 use Rattle.signed.proofs.Integers.{arithZ, neg, size}
-use Rattle.zone.specs.declared.Limit.{Limit}
-use Rattle.zone.specs.declared.Limit.the-variants.{AtMost, Below}
-use Rattle.zone.specs.Limit.{value, Small}
+use Rattle.limit.specs.declared.Limit.{Limit}
+use Rattle.limit.specs.declared.Limit.the-variants.{AtMost, Below}
+use Rattle.limit.specs.Limit.{value, Small}
 use Rattle.zone.specs.declared.Zone.{Zone}
 use Rattle.zone.specs.Zone.{Ranged}
 use Rattle.words.specs.Words.{zoneAt}
 use Rattle.list.specs.Slots.{listAt}
 use Rattle.list.proofs.Slots.{listAt-snoc}
-use Rattle.sheet.specs.Decimal.{decimal, integer}
+use Rattle.text.specs.Decimal.{integer}
+use Rattle.text.proofs.Digits.{places}
 use Rattle.sheet.specs.Sheet.{bracket, range, line, lines, finished, refused}
-use Rattle.sheet.proofs.Digits.{decimal-digit, decimal-more}
-
-one-more : (k n : ℕ) (t : Bool) → ltb n 10 ≡ t → length (decimal (n / 10)) ≤ suc k → length (decimal n) ≤ suc (suc k)
-one-more k n true e h = omega (arith, ap length (decimal-digit n (ltb-true n 10 e)))
-one-more k n false e h = rw (decimal-more n (ltb-false n 10 e), length-append) (omega arith)
-
--- A number below a power of ten has no more digits than the power.
-pub places : (k n : ℕ) → n < 10 ^ suc k → length (decimal n) ≤ suc k
-places zero n h = omega (arith, ap length (decimal-digit n (omega (arith, pow-suc 10 0, pow-zero 10))))
-places (suc k) n h = one-more k n (ltb n 10) refl (places k (n / 10) (omega (arith, pow-suc 10 (suc k))))
 
 -- an i32 and its negation have at most ten digits and a sign
 signed : (z : ℤ) → mag z ≤ 2147483648 → length (integer z) ≤ 11

@@ -4,10 +4,10 @@ use mathlib.Core.List.{[], _∷_, _++_}
 use Prim.Native.Nat.{ℕ}
 use lib.IntN.{ℤ, pos, negℤ}
 use Rattle.finder.specs.declared.Outcome.the-variants.{DrillForm, Overflow, Finished}
-use Rattle.finder.specs.Text.{ascii}
 use Rattle.finder.specs.Outcome.{returned}
 use Rattle.words.specs.Words.{zoneAt}
-use Rattle.sheet.specs.Decimal.{next, counted, decimal, integer}
+use Rattle.text.specs.Text.{ascii}
+use Rattle.text.specs.Decimal.{next, counted, decimal, integer}
 use Rattle.sheet.specs.Sheet.{range, line, lines, finished, refused, sheet}
 
 abbrev minus : ℕ → ℤ
@@ -38,7 +38,3 @@ no-zones = refl
 pub refusals : (sheet (returned DrillForm) [] ≡ ascii "refused 5\n") × (sheet (returned Overflow) [] ≡ ascii "refused 10\n")
 unfolding sheet refused decimal counted next
 refusals = (refl, refl)
-
-pub numbers : (decimal 109 ≡ ascii "109") × (decimal 1000 ≡ ascii "1000") × (integer (minus 70) ≡ ascii "-70") × (integer (minus 0) ≡ ascii "0")
-unfolding integer decimal counted next
-numbers = (refl, refl, refl, refl)

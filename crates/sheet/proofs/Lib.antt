@@ -1,6 +1,5 @@
-pub mod Digits
-pub mod Buffer
+-- Laws of sheets. `Bounds` says how long one is; the others are about its pieces, and what is answered of it.
 pub mod Sheet
 pub mod Bounds
-mod Signed
+mod Limits
 mod Examples

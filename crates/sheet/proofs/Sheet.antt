@@ -6,8 +6,12 @@ use Prim.Native.Nat.{ℕ, _*_, _≤_, _<_}
 use native.Mathlib.Omega.{arith}
 use lib.IntN.{ℤ}
 use lib.ListN.{length, take, drop}
-use lib.Seq.{take-nil, take-append-seam, drop-append-seam}
+use lib.Seq.{take-append-seam, drop-append-seam}
 use borrow.Author.Tests.{le-leb, lt-leb}
+use Rattle.text.specs.declared.Written.{Written}
+use Rattle.text.specs.declared.Written.the-variants.{Bytes, TooSmall, FrontShort}
+use Rattle.text.specs.Buffer.{Appends}
+use Rattle.text.proofs.Buffer.{or-longer, fits-onto, fits-fitted, over-fitted, fitted-bytes, at-first}
 use Rattle.finder.specs.declared.Returned.{Returned}
 use Rattle.finder.specs.declared.Outcome.{Outcome}
 use Rattle.finder.specs.declared.Outcome.the-variants.{
@@ -26,8 +30,7 @@ use Rattle.finder.specs.declared.Outcome.the-variants.{
 }
 use Rattle.finder.specs.Outcome.{returned}
 use Rattle.sheet.specs.Sheet.{finished, refused, sheet}
-use Rattle.sheet.specs.Buffer.{Written, Bytes, TooSmall, FrontShort, onto, fitted, Holds, Appends, answer, left}
-use Rattle.sheet.proofs.Buffer.{or-longer, fits-onto, fits-fitted, over-fitted, fitted-bytes}
+use Rattle.sheet.specs.Buffer.{answer, left}
 
 -- what a refusal comes to
 pub refusal-sheet : (o : Outcome) → 0 < returned o .number → (front : List ℤ) → (sheet (returned o) front ≡ refused (returned o .number)) × (returned o .zones ≡ 0) × (returned o .number < 100)
@@ -49,11 +52,6 @@ refusal-sheet (Finished zones rounds) n front = absurd (omega arith)
 pub finished-sheet : (r : Returned) (front : List ℤ) → r .number ≡ 0 → sheet r front ≡ finished (r .zones) (r .rounds) front
 unfolding sheet
 finished-sheet r front e = rw e
-
--- nothing is written at first
-at-first : (out : List ℕ) → Holds out [] out (Bytes 0)
-unfolding onto fitted
-at-first out = record { bytes = rw take-nil; answer = rw (le-leb 0 (length out) (omega arith)) }
 
 module _ (r : Returned) (front : List ℤ) {out : List ℕ} where
   pub told : {s out′ : List ℕ} {w : Written} → r .zones * 6 ≤ length front → sheet r front ≡ s → Appends s out (Bytes 0) out′ w → (w ≡ answer r front (length out)) × (out′ ≡ left r front out)

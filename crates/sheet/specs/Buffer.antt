@@ -1,32 +1,15 @@
--- A text in a lent buffer, and what is answered of it.
-use mathlib.Core.Path.{_≡_}
+-- A sheet in a lent buffer, and what is answered of it.
 use mathlib.Core.Bool.{cond}
-use mathlib.Core.List.{List, _++_}
+use mathlib.Core.List.{List}
 use Prim.Native.Nat.{ℕ, _*_}
 use lib.Dec.{leb}
 use lib.IntN.{ℤ}
-use lib.ListN.{length, take, drop}
+use lib.ListN.{length}
 use Rattle.finder.specs.declared.Returned.{Returned}
+use Rattle.text.specs.declared.Written.{Written}
+use Rattle.text.specs.declared.Written.the-variants.{FrontShort}
+use Rattle.text.specs.Buffer.{onto, fitted}
 use Rattle.sheet.specs.Sheet.{sheet}
-pub use Rattle.sheet.specs.declared.Written.{Written}
-pub use Rattle.sheet.specs.declared.Written.the-variants.{Bytes, TooSmall, FrontShort}
-
--- what a buffer holds once a text is written from its front: as much of the text as it has room for, what is behind the text as it was
-unfoldable pub onto : List ℕ → List ℕ → List ℕ
-onto text out = take (length out) text ++ drop (length text) out
-
--- how many bytes the text has, or that it is longer than the room
-unfoldable pub fitted : List ℕ → ℕ → Written
-fitted text room = cond (leb (length text) room) (Bytes (length text)) TooSmall
-
--- a buffer that held `out₀` has the text so far in it, and w is its answer
-pub record Holds (out₀ text out : List ℕ) (w : Written) : Type 0 where
-  pub bytes : out ≡ onto text out₀
-  pub answer : w ≡ fitted text (length out₀)
-
--- what a step from `out` and w to `out′` and w′ does: the text s goes behind any text so far
-pub record Appends (s out : List ℕ) (w : Written) (out′ : List ℕ) (w′ : Written) : Type 0 where
-  pub behind : (out₀ text : List ℕ) → Holds out₀ text out w → Holds out₀ (text ++ s) out′ w′
 
 -- the answer: FrontShort where the words are too few for the zones, else whether the sheet fits
 unfoldable pub answer : Returned → List ℤ → ℕ → Written

@@ -1,3 +1,3 @@
-pub mod Decimal
+-- What the contracts of `sheet` cite: definitions alone.
 pub mod Sheet
 pub mod Buffer

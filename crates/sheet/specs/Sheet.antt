@@ -1,17 +1,17 @@
 -- The text that document 01 prints, as bytes.
 use mathlib.Core.Bool.{cond}
-use mathlib.Core.List.{List, [], _∷_, _++_}
+use mathlib.Core.List.{List, [], _++_}
 use Prim.Native.Nat.{ℕ, zero, suc, _*_}
 use lib.Dec.{eqb}
 use lib.IntN.{ℤ, negℤ}
-use Rattle.zone.specs.declared.Limit.{Limit}
-use Rattle.zone.specs.declared.Limit.the-variants.{AtMost, Below}
+use Rattle.limit.specs.declared.Limit.{Limit}
+use Rattle.limit.specs.declared.Limit.the-variants.{AtMost, Below}
 use Rattle.zone.specs.declared.Zone.{Zone}
-use Rattle.zone.specs.Limit.{value}
+use Rattle.limit.specs.Limit.{value}
 use Rattle.words.specs.Words.{zoneAt}
-use Rattle.sheet.specs.Decimal.{decimal, integer}
+use Rattle.text.specs.Decimal.{decimal, integer}
 use Rattle.finder.specs.declared.Returned.{Returned}
-use Rattle.finder.specs.Text.{ascii}
+use Rattle.text.specs.Text.{ascii}
 
 -- one text or the other: "a square bracket is reached, a round one is not"
 abbrev pub bracket : Limit → List ℕ → List ℕ → List ℕ

@@ -15,11 +15,11 @@ use Rattle.zone.specs.Zone.{contains, compose, Tight}
 use Rattle.zone.proofs.Lengths.{Extends, span}
 use Rattle.zone.proofs.Laws.{compose-mono, extends-refl, extends-step, span-longer, span-some, span-adds, span-bound, same-zone?}
 use Rattle.list.specs.Insert.{Built, listed, overflow, insert-each}
-use Rattle.operators.specs.declared.Operation.the-variants.{Compose}
-use Rattle.star.specs.Star.{round, Closure, finished, overflow, one-more, Rounds, Rounds.last, Rounds.more, Rounds.over, Star, Star.closed, Star.no-room, Star.over-round}
+use Rattle.pairs.specs.declared.Operation.the-variants.{Compose}
+use Rattle.star.specs.Star.{round, Closure, finished, overflow, one-more, Rounds, Rounds.last, Rounds.more, Rounds.overflows, Star, Star.closed, Star.diagonal-overflows, Star.round-overflows}
 use Rattle.list.specs.Members.{AllProper, Covered}
 use Rattle.list.proofs.Coverage.{covered-within, puts-fresh}
-use Rattle.operators.proofs.Pairs.{pairs-mem}
+use Rattle.pairs.proofs.Pairs.{pairs-mem}
 use Rattle.star.proofs.Rounds.{After, After.begin, After.turn, round-puts, rounds-end}
 use Rattle.star.proofs.Composed.{Composed, Composed.single, Composed.extend, Reached, composed-proper, after-reached}
 
@@ -168,7 +168,7 @@ module _ {from to : ℕ} {inner : List Zone} (proper : AllProper from to inner) 
     exists (suc left) {L = L} a h = go (round inner L) refl (λ M e n. exists left (turn a e n) (omega arith))
       where
         go : (b : Built) → round inner L ≡ b → ((M : List Zone) → round inner L ≡ listed M → ¬ (M ≡ L) → (o : Closure) × Rounds inner M o) → (o : Closure) × Rounds inner L o
-        go overflow e below = (overflow, over e)
+        go overflow e below = (overflow, overflows e)
         go (listed M) e below = cases (List-discrete same-zone? M L)
           where
             cases : Dec (M ≡ L) → (o : Closure) × Rounds inner L o
@@ -184,8 +184,8 @@ module _ {from to : ℕ} {inner : List Zone} (proper : AllProper from to inner) 
       where
         put : {r : ℕ} {F : List Zone} → Rounds inner inner (finished r F) → (b : Built) → insert-each (zone diagonal ∷ []) F ≡ b → (o : Closure) × Star inner diagonal o
         put {r} t (listed G) e = (finished r G, closed t e)
-        put t overflow e = (overflow, no-room t e)
+        put t overflow e = (overflow, diagonal-overflows t e)
 
         go : (o : Closure) → Rounds inner inner o → (o : Closure) × Star inner diagonal o
         go (finished r F) t = put t (insert-each (zone diagonal ∷ []) F) refl
-        go overflow t = (overflow, over-round t)
+        go overflow t = (overflow, round-overflows t)

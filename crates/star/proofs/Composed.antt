@@ -8,12 +8,12 @@ use Rattle.zone.specs.declared.Zone.{Zone}
 use Rattle.zone.specs.declared.MaybeZone.the-variants.{Zone as zone}
 use Rattle.zone.specs.Zone.{compose, Proper}
 use Rattle.zone.proofs.Laws.{contains-refl, compose-mono, proper-compose}
-use Rattle.operators.specs.Operators.{pairs}
-use Rattle.operators.specs.declared.Operation.the-variants.{Compose}
+use Rattle.pairs.specs.Pairs.{pairs}
+use Rattle.pairs.specs.declared.Operation.the-variants.{Compose}
 use Rattle.star.specs.Star.{finished, Rounds}
 use Rattle.list.specs.Members.{AllProper, Covered}
 use Rattle.list.proofs.Coverage.{Puts, covered-within, puts-mem, puts-keep, puts-new}
-use Rattle.operators.proofs.Pairs.{pairs-mem, mem-pairs}
+use Rattle.pairs.proofs.Pairs.{pairs-mem, mem-pairs}
 use Rattle.star.proofs.Rounds.{After, After.begin, After.turn, round-puts, after-proper, rounds-end}
 
 -- x is the composition, from the left, of j inner zones

@@ -3,12 +3,12 @@ use mathlib.Core.Logic.{_↔_, _⊎_, inl, inr, ⊎-map, ⊎-elim, Iff·trans}
 use mathlib.Core.List.{List, [], _∷_}
 use Prim.Native.Nat.{ℕ, suc, _≤_}
 use native.Mathlib.Omega.{arith}
-use Rattle.zone.specs.Time.{Time, _≈ᵀ_}
+use Rattle.limit.specs.Time.{Time, _≈ᵀ_}
 use Rattle.zone.specs.declared.Zone.{Zone}
 use Rattle.zone.specs.declared.MaybeZone.the-variants.{Zone as zone}
 use Rattle.zone.specs.Zone.{In}
-use Rattle.zone.proofs.Laws.{compose-cut, compose-glue}
-use Rattle.zone.proofs.Times.{≈-refl, ≈-sym, in-same}
+use Rattle.zone.proofs.Laws.{compose-cut, compose-glue, in-same}
+use Rattle.limit.proofs.Times.{≈-refl, ≈-sym}
 use Rattle.star.specs.Star.{finished, Star}
 use Rattle.star.specs.Pieces.{Pieces, Pieces.none, Pieces.more}
 use Rattle.list.specs.Members.{Lies, AllProper}

@@ -8,13 +8,13 @@ use Rattle.zone.specs.declared.Zone.{Zone}
 use Rattle.zone.specs.declared.MaybeZone.the-variants.{Zone as zone}
 use Rattle.zone.proofs.Laws.{proper-compose}
 use Rattle.list.specs.Insert.{capacity, listed, overflow, insert-each}
-use Rattle.operators.specs.Operators.{pairs}
-use Rattle.operators.specs.declared.Operation.the-variants.{Compose}
-use Rattle.star.specs.Star.{round, Closure, finished, overflow, one-more, Rounds, Rounds.last, Rounds.more, Rounds.over, Star, Star.closed, Star.no-room, Star.over-round}
+use Rattle.pairs.specs.Pairs.{pairs}
+use Rattle.pairs.specs.declared.Operation.the-variants.{Compose}
+use Rattle.star.specs.Star.{round, Closure, finished, overflow, one-more, Rounds, Rounds.last, Rounds.more, Rounds.overflows, Star, Star.closed, Star.diagonal-overflows, Star.round-overflows}
 use Rattle.list.specs.Members.{AllProper}
-use Rattle.list.specs.Antichain.{Antichain}
+use Rattle.list.proofs.Antichain.{Antichain}
 use Rattle.list.proofs.Coverage.{Puts, puts, puts-proper, puts-antichain, puts-length, clash}
-use Rattle.operators.proofs.Pairs.{pairs-mem}
+use Rattle.pairs.proofs.Pairs.{pairs-mem}
 
 -- L is the list after k rounds that each changed something: what the loop that makes the rounds knows
 pub data After (inner : List Zone) : ℕ → List Zone → Type 0 where
@@ -53,9 +53,9 @@ before-finished : (k r : ℕ) (F : List Zone) → before k (finished r F) ≡ fi
 before-finished zero r F = ap (λ (n : ℕ). finished n F) (omega arith)
 before-finished (suc k) r F = before-finished k (suc r) F ∙ ap (λ (n : ℕ). finished n F) (omega arith)
 
-before-burst : (k : ℕ) → before k overflow ≡ overflow
-before-burst zero = refl
-before-burst (suc k) = before-burst k
+before-overflow : (k : ℕ) → before k overflow ≡ overflow
+before-overflow zero = refl
+before-overflow (suc k) = before-overflow k
 
 whole : {inner : List Zone} {k : ℕ} {L : List Zone} {o : Closure} → After inner k L → Rounds inner L o → Rounds inner inner (before k o)
 whole begin t = t
@@ -66,8 +66,8 @@ pub after-last : {inner : List Zone} {k : ℕ} {L : List Zone} → After inner k
 after-last {inner} {k} {L} a e = subst (Rounds inner inner) (before-finished k 1 L ∙ ap (λ (n : ℕ). finished n L) (omega arith)) (whole a (last e))
 
 -- a put that would leave 129 zones ends the rounds
-pub after-over : {inner : List Zone} {k : ℕ} {L : List Zone} → After inner k L → round inner L ≡ overflow → Rounds inner inner overflow
-after-over {inner} {k} a e = subst (Rounds inner inner) (before-burst k) (whole a (over e))
+pub after-overflow : {inner : List Zone} {k : ℕ} {L : List Zone} → After inner k L → round inner L ≡ overflow → Rounds inner inner overflow
+after-overflow {inner} {k} a e = subst (Rounds inner inner) (before-overflow k) (whole a (overflows e))
 
 -- ---- where the rounds end
 
@@ -83,7 +83,7 @@ ends {inner} {k} a (more {o = o} e n t) = go o (ends (turn a e n) t)
     go : (o : Closure) → Ends inner (suc k) o → Ends inner k (one-more o)
     go (finished r F) h = (h .0, h .1, let q = h .2 in omega arith, h .3)
     go overflow h = tt
-ends a (over e) = tt
+ends a (overflows e) = tt
 
 -- r rounds that finish: all but the last changed something, and the last one nothing
 pub rounds-end : {inner : List Zone} {r : ℕ} {F : List Zone} → Rounds inner inner (finished r F) → (n : ℕ) × After inner n F × (suc n ≡ r) × (round inner F ≡ listed F)
@@ -99,22 +99,22 @@ star-rounds (closed {F = F} t e) = (F, t, e)
 pub rounds-unique : {inner L : List Zone} {o p : Closure} → Rounds inner L o → Rounds inner L p → o ≡ p
 rounds-unique (last e) (last f) = refl
 rounds-unique (last e) (more f n t) = absurd (n (cc))
-rounds-unique (last e) (over f) = clash (cc)
+rounds-unique (last e) (overflows f) = clash (cc)
 rounds-unique (more e n t) (last f) = absurd (n (cc))
 rounds-unique {inner} (more {M = M} e n t) (more {M = N} {o = q} f m u) = ap one-more (rounds-unique t (let s : N ≡ M = cc in subst (λ (K : List Zone). Rounds inner K q) s u))
-rounds-unique (more e n t) (over f) = clash (cc)
-rounds-unique (over e) (last f) = clash (cc)
-rounds-unique (over e) (more f n t) = clash (cc)
-rounds-unique (over e) (over f) = refl
+rounds-unique (more e n t) (overflows f) = clash (cc)
+rounds-unique (overflows e) (last f) = clash (cc)
+rounds-unique (overflows e) (more f n t) = clash (cc)
+rounds-unique (overflows e) (overflows f) = refl
 
 -- .. and so, with the diagonal, the star
 pub star-unique : {inner : List Zone} {diagonal : Zone} {o p : Closure} → Star inner diagonal o → Star inner diagonal p → o ≡ p
 star-unique (closed t e) (closed u f) = let q = rounds-unique t u in cc
-star-unique (closed t e) (no-room u f) = let q = rounds-unique t u in clash (cc)
-star-unique (closed t e) (over-round u) = let q = rounds-unique t u in clash (cc)
-star-unique (no-room t e) (closed u f) = let q = rounds-unique t u in clash (cc)
-star-unique (no-room t e) (no-room u f) = refl
-star-unique (no-room t e) (over-round u) = refl
-star-unique (over-round t) (closed u f) = let q = rounds-unique t u in clash (cc)
-star-unique (over-round t) (no-room u f) = refl
-star-unique (over-round t) (over-round u) = refl
+star-unique (closed t e) (diagonal-overflows u f) = let q = rounds-unique t u in clash (cc)
+star-unique (closed t e) (round-overflows u) = let q = rounds-unique t u in clash (cc)
+star-unique (diagonal-overflows t e) (closed u f) = let q = rounds-unique t u in clash (cc)
+star-unique (diagonal-overflows t e) (diagonal-overflows u f) = refl
+star-unique (diagonal-overflows t e) (round-overflows u) = refl
+star-unique (round-overflows t) (closed u f) = let q = rounds-unique t u in clash (cc)
+star-unique (round-overflows t) (diagonal-overflows u f) = refl
+star-unique (round-overflows t) (round-overflows u) = refl

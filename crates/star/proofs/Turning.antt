@@ -6,18 +6,20 @@ use Prim.Native.Nat.{ℕ, suc, _+_, _*_, _≤_, _<_}
 use native.Mathlib.Omega.{arith}
 use native.Mathlib.Numerals.{add-one}
 use lib.IntN.{ℤ}
-use lib.ListN.{length}
 use Rattle.zone.specs.declared.Zone.{Zone}
 use Rattle.words.specs.Words.{word}
 use Rattle.list.specs.Insert.{listed, overflow}
 use Rattle.star.specs.Star.{finished, overflow, Rounds, round}
-use Rattle.list.specs.Slots.{listAt, Source, Holds, Kept, KeptBoth, Disjoint, Sound}
-use Rattle.star.specs.Steps.{Changes, Ending}
-use Rattle.star.proofs.Rounds.{After, After.begin as begin, After.turn as turn, after-proper, after-last, after-over}
+use Rattle.list.specs.Slots.{listAt, Free, Slot, Holds, Kept, KeptBoth, Disjoint, Sound}
+use Rattle.pairs.specs.Operands.{Operands}
+use Rattle.operators.specs.Listing.{Workspace}
+use Rattle.star.specs.Steps.{Changes, Ending, EndsAs}
+use Rattle.star.specs.declared.Ended.the-variants.{Overflow}
+use Rattle.star.proofs.Rounds.{After, After.begin as begin, After.turn as turn, after-proper, after-last, after-overflow}
 use Rattle.star.proofs.Bound.{after-bound}
 use Rattle.list.proofs.Slots.{listAt-length, listAt-same, list-there}
 use Rattle.list.proofs.Puts.{holds-same}
-use Rattle.list.proofs.Copies.{kept-neither}
+use Rattle.list.proofs.Copies.{kept-neither, disjoint-swap}
 
 -- the list stands in one of the two slots, and the next round goes to the other
 abbrev pub Facing : ℕ → ℕ → ℕ → ℕ → Type 0
@@ -34,45 +36,56 @@ turned : {first second list copy : ℕ} → Facing first second list copy → Fa
 turned (inl p) = inr (p .1, p .0)
 turned (inr p) = inl (p .1, p .0)
 
-swap : {a b : ℕ} → Disjoint a b → Disjoint b a
-swap (inl h) = inr h
-swap (inr h) = inl h
-
 at-list : {first second list copy : ℕ} (P : ℕ → ℕ → Type 0) → Facing first second list copy → P first second → P second first → P list copy
 at-list {first} {copy = copy} P (inl p) x y = subst (λ (k : ℕ). P k copy) (sym (p .0)) (subst (λ (j : ℕ). P first j) (sym (p .1)) x)
 at-list {second = second} {copy = copy} P (inr p) x y = subst (λ (k : ℕ). P k copy) (sym (p .0)) (subst (λ (j : ℕ). P second j) (sym (p .1)) y)
 
-module _ {inner m first second : ℕ} {ws₀ : List ℤ} (source : Source ws₀ inner m) (d₁ : Disjoint inner first) (d₂ : Disjoint inner second) (d₃ : Disjoint first second) where
+module _ {inner m first second : ℕ} {ws₀ : List ℤ} (work : Workspace ws₀ inner m first second) where
   pub turn-start : listAt ws₀ first m ≡ listAt ws₀ inner m → Turning inner m first second ws₀ ws₀ first second m 0
-  turn-start e = record { few = source .few; place = inl (refl, refl); frame = kept-neither first second ws₀; after = subst (After (listAt ws₀ inner m) 0) (sym e) begin }
+  turn-start e = record { few = work .list .few; place = inl (refl, refl); frame = kept-neither first second ws₀; after = subst (After (listAt ws₀ inner m) 0) (sym e) begin }
 
   module _ {ws : List ℤ} {list copy n made : ℕ} (t : Turning inner m first second ws₀ ws list copy n made) where
-    pub turn-apart : Disjoint list copy
-    turn-apart = at-list Disjoint (t .place) d₃ (swap d₃)
+    turn-apart : Disjoint list copy
+    turn-apart = at-list Disjoint (t .place) (work .both-apart) (disjoint-swap (work .both-apart))
 
-    pub turn-inner : Disjoint inner copy
-    turn-inner = at-list (λ k j. Disjoint inner j) (t .place) d₂ d₁
+    first-free : Free ws first
+    first-free = omega (arith, work .target-free, t .frame .same-length)
 
-    pub turn-room : first + 768 ≤ length ws₀ → second + 768 ≤ length ws₀ → (list + 768 ≤ length ws) × (copy + 768 ≤ length ws)
-    turn-room a b = at-list (λ k j. (k + 768 ≤ length ws) × (j + 768 ≤ length ws)) (t .place) (omega (arith, t .frame .same-length), omega (arith, t .frame .same-length)) (omega (arith, t .frame .same-length), omega (arith, t .frame .same-length))
+    second-free : Free ws second
+    second-free = omega (arith, work .scratch-free, t .frame .same-length)
 
     -- the inner list is where it was
     pub inner-same : listAt ws inner m ≡ listAt ws₀ inner m
-    inner-same = listAt-same ws₀ ws inner inner m (λ k h. t .frame .others (inner + k) (clear d₁ h (source .few)) (clear d₂ h (source .few)))
+    inner-same = listAt-same ws₀ ws inner inner m (λ k h. t .frame .others (inner + k) (clear (work .target-apart) h (work .list .few)) (clear (work .scratch-apart) h (work .list .few)))
       where
         clear : {a k : ℕ} → Disjoint inner a → k < m * 6 → m ≤ 128 → (inner + k < a) ⊎ (a + 768 ≤ inner + k)
         clear (inl h) l f = inl (omega arith)
         clear (inr h) l f = inr (omega arith)
 
-    pub turn-sound : Sound (listAt ws list n)
-    turn-sound = after-proper (source .sound) (t .after)
-
-    pub turn-source : Source ws inner m
-    turn-source = record { few = source .few; room = omega (arith, source .room, t .frame .same-length); sound = subst Sound (sym inner-same) (source .sound) }
+    -- both lists can be combined, and the copy is free
+    pub turn-operands : Operands ws list n inner m copy 0
+    turn-operands =
+        record {
+          lefts =
+              record {
+                list = record { few = t .few; room = at-list (λ k j. Free ws k) (t .place) first-free second-free; sound = after-proper (work .list .sound) (t .after) };
+                slot = copy-slot;
+                apart = turn-apart;
+              };
+          rights =
+              record {
+                list = record { few = work .list .few; room = omega (arith, work .list .room, t .frame .same-length); sound = subst Sound (sym inner-same) (work .list .sound) };
+                slot = copy-slot;
+                apart = at-list (λ k j. Disjoint inner j) (t .place) (work .scratch-apart) (work .target-apart);
+              };
+        }
+      where
+        copy-slot : Slot ws copy 0
+        copy-slot = record { few = omega arith; room = at-list (λ k j. Free ws j) (t .place) second-free first-free }
 
     -- the loop's measure, by the bound on rounds and nothing else
     pub turn-bound : suc made ≤ m + 1_000_000
-    turn-bound = let b = after-bound (source .sound) (omega arith) (t .after) in omega (arith, listAt-length ws₀ inner m)
+    turn-bound = let b = after-bound (work .list .sound) (omega arith) (t .after) in omega (arith, listAt-length ws₀ inner m)
 
     pub turn-kept : {vs : List ℤ} → Kept copy 768 ws vs → KeptBoth first second ws₀ vs
     turn-kept {vs} k =
@@ -84,6 +97,10 @@ module _ {inner m first second : ℕ} {ws₀ : List ℤ} (source : Source ws₀ 
         outside : {c i : ℕ} → (i < c) ⊎ (c + 768 ≤ i) → Kept c 768 ws vs → word vs i ≡ word ws i
         outside (inl h) w = w .below _ h
         outside (inr h) w = w .above _ h
+
+    -- both slots are free after a round too
+    turn-frees : {vs : List ℤ} → Kept copy 768 ws vs → Free vs first × Free vs second
+    turn-frees k = (omega (arith, first-free, k .same-length), omega (arith, second-free, k .same-length))
 
     at-home : (r : List Zone → Type 0) → r (listAt ws inner m) → r (listAt ws₀ inner m)
     at-home r = subst r inner-same
@@ -102,14 +119,17 @@ module _ {inner m first second : ℕ} {ws₀ : List ℤ} (source : Source ws₀ 
         }
 
     -- the last round
-    pub turn-end : {vs : List ℤ} → round (listAt ws inner m) (listAt ws list n) ≡ listed (listAt ws list n) → Kept copy 768 ws vs → Ending (listAt ws₀ inner m) first second vs list n (made + 1)
-    turn-end {vs} e f =
+    pub turn-end : {vs : List ℤ} → (round (listAt ws inner m) (listAt ws list n) ≡ listed (listAt ws list n)) × Free vs copy → Kept copy 768 ws vs → Ending (listAt ws₀ inner m) first second vs list n (made + 1)
+    turn-end {vs} (e, _) f =
         record {
           list = listAt ws list n;
           value = subst (λ (j : ℕ). Rounds (listAt ws₀ inner m) (listAt ws₀ inner m) (finished j (listAt ws list n))) (sym (add-one made)) (after-last (t .after) (at-home (λ I. round I (listAt ws list n) ≡ listed (listAt ws list n)) e));
           holds = subst (Holds vs list n) (list-there list n f turn-apart (t .few)) (holds-same vs list n (t .few));
           place = at-list (λ l c. (l ≡ first) ⊎ (l ≡ second)) (t .place) (inl refl) (inr refl);
+          first-free = turn-frees f .0;
+          second-free = turn-frees f .1;
         }
 
-    pub turn-over : round (listAt ws inner m) (listAt ws list n) ≡ overflow → Rounds (listAt ws₀ inner m) (listAt ws₀ inner m) overflow
-    turn-over e = after-over (t .after) (at-home (λ I. round I (listAt ws list n) ≡ overflow) e)
+    -- a put of this round would leave 129 zones
+    pub turn-overflow : {vs : List ℤ} → (round (listAt ws inner m) (listAt ws list n) ≡ overflow) × Free vs copy → Kept copy 768 ws vs → EndsAs (listAt ws₀ inner m) first second vs Overflow
+    turn-overflow (e, _) f = (after-overflow (t .after) (at-home (λ I. round I (listAt ws list n) ≡ overflow) e), turn-frees f .0, turn-frees f .1)

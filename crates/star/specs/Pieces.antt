@@ -1,6 +1,6 @@
 -- Consecutive pieces of a stretch.
 use Prim.Native.Nat.{ℕ, suc}
-use Rattle.zone.specs.Time.{Time, _≈ᵀ_}
+use Rattle.limit.specs.Time.{Time, _≈ᵀ_}
 
 -- n consecutive pieces, each of them P: "the first starts at the stretch's start, every other one where the one before it ends, and the last
 -- ends at the stretch's end"; no piece at all where start = end

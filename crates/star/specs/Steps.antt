@@ -7,7 +7,7 @@ use lib.IntN.{ℤ}
 use Rattle.zone.specs.declared.Zone.{Zone}
 use Rattle.list.specs.Insert.{listed, overflow}
 use Rattle.star.specs.Star.{finished, overflow, Rounds, round}
-use Rattle.list.specs.Slots.{Holds}
+use Rattle.list.specs.Slots.{Free, Holds}
 use Rattle.star.specs.declared.Round.{Round}
 use Rattle.star.specs.declared.Round.the-variants.{Same, Changed, Overflow}
 use Rattle.star.specs.declared.Ended.{Ended}
@@ -20,18 +20,22 @@ pub record Changes (inner L : List Zone) (vs : List ℤ) (copy n : ℕ) : Type 0
   pub new : ¬ (list ≡ L)
   pub holds : Holds vs copy n list
 
+-- .. or the round changes nothing, or one of its puts would leave 129 zones; then the slot is free
 abbrev pub RoundAs : List Zone → List Zone → List ℤ → ℕ → Round → Type 0
-RoundAs inner L vs copy Same = round inner L ≡ listed L
+RoundAs inner L vs copy Same = (round inner L ≡ listed L) × Free vs copy
 RoundAs inner L vs copy (Changed n) = Changes inner L vs copy n
-RoundAs inner L vs copy Overflow = round inner L ≡ overflow
+RoundAs inner L vs copy Overflow = (round inner L ≡ overflow) × Free vs copy
 
--- all rounds: the last list stands at `at`, one of the two slots
-pub record Ending (inner : List Zone) (a b : ℕ) (vs : List ℤ) (at n rounds : ℕ) : Type 0 where
+-- all rounds: the last list stands at `at`, one of the two slots, and the other is free
+pub record Ending (inner : List Zone) (first second : ℕ) (vs : List ℤ) (at n rounds : ℕ) : Type 0 where
   pub list : List Zone
   pub value : Rounds inner inner (finished rounds list)
   pub holds : Holds vs at n list
-  pub place : (at ≡ a) ⊎ (at ≡ b)
+  pub place : (at ≡ first) ⊎ (at ≡ second)
+  pub first-free : Free vs first
+  pub second-free : Free vs second
 
+-- .. or one of them overflows, and both are free
 abbrev pub EndsAs : List Zone → ℕ → ℕ → List ℤ → Ended → Type 0
-EndsAs inner a b vs (EndedAt at n rounds) = Ending inner a b vs at n rounds
-EndsAs inner a b vs Overflow = Rounds inner inner overflow
+EndsAs inner first second vs (EndedAt at n rounds) = Ending inner first second vs at n rounds
+EndsAs inner first second vs Overflow = Rounds inner inner overflow × Free vs first × Free vs second

@@ -1,14 +1,16 @@
 // The rounds of a star. They end, by the bound n + d on their number (proofs/Bound.antt).
 //
 // specs/Star.antt says what the rounds come to, over plain lists of zones.
-use operators::Grown;
-use operators::Operation;
+use pairs::Grown;
+use pairs::Operation;
+use words::ZONE_WORDS;
 use zone::Zone;
 ghost use mathlib.Core.Path.{_≡_};
-ghost use Prim.Native.Nat.{_+_, _≤_};
-ghost use lib.ListN.{length};
+ghost use Prim.Native.Nat.{_≤_};
 ghost use Rattle.zone.specs.Zone.{diagonal};
-ghost use Rattle.list.specs.Slots.{listAt, Source, Kept, KeptBoth, Disjoint};
+ghost use Rattle.list.specs.Slots.{slot-words, listAt, Free, Kept, KeptBoth};
+ghost use Rattle.pairs.specs.Operands.{Operands};
+ghost use Rattle.operators.specs.Listing.{Workspace};
 ghost use Rattle.star.specs.Closing.{StarAs};
 ghost use Rattle.star.specs.Steps.{RoundAs, EndsAs};
 
@@ -37,12 +39,12 @@ enum Ended {
 
 // One round: the list copied to `copy`, and there each listed zone's composition with each inner zone.
 fn one_round(words: &mut [i32], list: usize, n: usize, inner: usize, m: usize, copy: usize) -> Round
-    requires { ⌜ (Source (now words) list n) × (Source (now words) inner m) × (copy + 768 ≤ length (now words)) × (Disjoint list copy) × (Disjoint inner copy) ⌝ }
+    requires { ⌜ Operands (now words) list n inner m copy 0 ⌝ }
     ensures round { λ r. ⌜ RoundAs (listAt (now (words .entry)) inner m) (listAt (now (words .entry)) list n) (now (words .exit)) copy r ⌝ }
-    ensures kept { λ _. ⌜ Kept copy 768 (now (words .entry)) (now (words .exit)) ⌝ }
+    ensures kept { λ _. ⌜ Kept copy slot-words (now (words .entry)) (now (words .exit)) ⌝ }
 {
     list::copy_zones(words, list, copy, n);
-    let Grown::Grew { count, changed } = operators::each_pair(
+    let Grown::Grew { count, changed } = pairs::each_pair(
         words,
         Operation::Compose,
         list,
@@ -64,7 +66,7 @@ fn one_round(words: &mut [i32], list: usize, n: usize, inner: usize, m: usize, c
 // All rounds of a star, from the inner list at `first` on. A round goes from the one slot to the other, so that only the
 // copy is made that a round is. The loop ends by the bound on rounds.
 fn all_rounds(words: &mut [i32], inner: usize, m: usize, first: usize, second: usize) -> Ended
-    requires { ⌜ (Source (now words) inner m) × (first + 768 ≤ length (now words)) × (second + 768 ≤ length (now words)) × (Disjoint inner first) × (Disjoint inner second) × (Disjoint first second) × (listAt (now words) first m ≡ listAt (now words) inner m) ⌝ }
+    requires { ⌜ (Workspace (now words) inner m first second) × (listAt (now words) first m ≡ listAt (now words) inner m) ⌝ }
     ensures ended { λ r. ⌜ EndsAs (listAt (now (words .entry)) inner m) first second (now (words .exit)) r ⌝ }
     ensures kept { λ _. ⌜ KeptBoth first second (now (words .entry)) (now (words .exit)) ⌝ }
 {
@@ -95,7 +97,7 @@ fn all_rounds(words: &mut [i32], inner: usize, m: usize, first: usize, second: u
     }
 }
 
-// `*`: the rounds, and then the diagonal of ticks from..to, into the list at `target`.
+// `*`: the rounds, and then the diagonal of ticks from..to, into the list at `target`. The slot `scratch` is free afterwards.
 pub fn star(
     words: &mut [i32],
     inner: usize,
@@ -105,9 +107,10 @@ pub fn star(
     from: u32,
     to: u32,
 ) -> Starred
-    requires { ⌜ (Source (now words) inner m) × (target + 768 ≤ length (now words)) × (scratch + 768 ≤ length (now words)) × (Disjoint inner target) × (Disjoint inner scratch) × (Disjoint target scratch) × (from ≤ to) × (to ≤ 1_000_000) ⌝ }
+    requires { ⌜ (Workspace (now words) inner m target scratch) × (from ≤ to) × (to ≤ 1_000_000) ⌝ }
     ensures closed { λ r. ⌜ StarAs (listAt (now (words .entry)) inner m) (diagonal from to) (now (words .exit)) target r ⌝ }
     ensures kept { λ _. ⌜ KeptBoth target scratch (now (words .entry)) (now (words .exit)) ⌝ }
+    ensures free { λ _. ⌜ Free (now (words .exit)) scratch ⌝ }
 {
     list::copy_zones(words, inner, target, m);
     let Ended::EndedAt {
@@ -119,9 +122,9 @@ pub fn star(
         return Starred::Overflow;
     };
     list::bring(words, at, n, target);
-    let mut w = [0i32; 6];
+    let mut w = [0i32; ZONE_WORDS];
     words::write_zone(&mut w, 0, Zone::diagonal(from, to));
-    let Grown::Grew { count, changed: _ } = operators::grow(words, target, n, false, &w) else {
+    let Grown::Grew { count, changed: _ } = pairs::grow(words, target, n, false, &w) else {
         return Starred::Overflow; // the diagonal would be the 129th
     };
     Starred::Finished {

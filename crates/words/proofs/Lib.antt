@@ -1,3 +1,4 @@
 pub mod Words
 pub mod Signed
 pub mod Steps
+pub mod Nestings

@@ -7,10 +7,10 @@ use native.Mathlib.Nat.{add-zero}
 use lib.IntN.{ℤ, pos}
 use lib.ListN.{length, set, take, drop, length-append, length-take, length-drop, List·getD-append}
 use lib.Seq.{sets-eq, length-take-le, getD-append-add, getD-take, getD-drop}
-use Rattle.zone.specs.Limit.{decode}
+use Rattle.limit.specs.Limit.{decode}
 use Rattle.zone.specs.declared.Zone.{Zone}
-use Rattle.words.specs.Words.{word, codes, zoneAt, overwrite}
-use Rattle.zone.proofs.Coding.{code-decode, decode-code}
+use Rattle.words.specs.Words.{zone-words, word, codes, zoneAt, overwrite}
+use Rattle.limit.proofs.Coding.{code-decode, decode-code}
 
 -- ---- a buffer that was written to
 
@@ -45,7 +45,7 @@ module _ (ws : List ℤ) (at : ℕ) (vs : List ℤ) (fits : at + length vs ≤ l
       ∙ ap (word ws) (omega arith)
 
 -- the zone of six codes
-pub zone-of-codes : (ws : List ℤ) (at : ℕ) (z : Zone) → ((k : ℕ) → k < 6 → word ws (at + k) ≡ word (codes z) k) → zoneAt ws at ≡ z
+pub zone-of-codes : (ws : List ℤ) (at : ℕ) (z : Zone) → ((k : ℕ) → k < zone-words → word ws (at + k) ≡ word (codes z) k) → zoneAt ws at ≡ z
 unfolding zoneAt
 zone-of-codes ws at z f =
     let f0 = rw add-zero at (f 0 (omega arith)) in
@@ -59,11 +59,11 @@ zone-of-codes ws at z f =
     }
 
 -- the codes of a zone that was read are the words that it was read from
-pub zone-words : (ws : List ℤ) (at : ℕ) → codes (zoneAt ws at) ≡ word ws at ∷ word ws (at + 1) ∷ word ws (at + 2) ∷ word ws (at + 3) ∷ word ws (at + 4) ∷ word ws (at + 5) ∷ []
+pub codes-read : (ws : List ℤ) (at : ℕ) → codes (zoneAt ws at) ≡ word ws at ∷ word ws (at + 1) ∷ word ws (at + 2) ∷ word ws (at + 3) ∷ word ws (at + 4) ∷ word ws (at + 5) ∷ []
 unfolding zoneAt
-zone-words ws at = simp code-decode
+codes-read ws at = simp code-decode
 
-pub zone-word : (ws : List ℤ) (at k : ℕ) → k < 6 → word (codes (zoneAt ws at)) k ≡ word ws (at + k)
+pub zone-word : (ws : List ℤ) (at k : ℕ) → k < zone-words → word (codes (zoneAt ws at)) k ≡ word ws (at + k)
 unfolding zoneAt
 zone-word ws at zero h = code-decode (word ws at) ∙ ap (word ws) (omega arith)
 zone-word ws at (suc zero) h = code-decode (word ws (at + 1))
@@ -74,18 +74,18 @@ zone-word ws at (suc (suc (suc (suc (suc zero))))) h = code-decode (word ws (at 
 zone-word ws at (suc (suc (suc (suc (suc (suc k)))))) h = absurd (omega arith)
 
 -- two buffers with the same six words have the same zone there
-pub same-zone : (ws vs : List ℤ) (i j : ℕ) → ((k : ℕ) → k < 6 → word ws (i + k) ≡ word vs (j + k)) → zoneAt ws i ≡ zoneAt vs j
+pub same-zone : (ws vs : List ℤ) (i j : ℕ) → ((k : ℕ) → k < zone-words → word ws (i + k) ≡ word vs (j + k)) → zoneAt ws i ≡ zoneAt vs j
 unfolding zoneAt
 same-zone ws vs i j f =
     let f0 = rw (add-zero, add-zero) at (f 0 (omega arith)) in
     λ m. record { start = decode (f0 m); nstart = decode (f 1 (omega arith) m); end = decode (f 2 (omega arith) m); nend = decode (f 3 (omega arith) m); length = decode (f 4 (omega arith) m); nlength = decode (f 5 (omega arith) m) }
 
 -- a zone that was written is read there
-pub written-zone : (ws : List ℤ) (at : ℕ) (z : Zone) → at + 6 ≤ length ws → zoneAt (overwrite ws at (codes z)) at ≡ z
+pub written-zone : (ws : List ℤ) (at : ℕ) (z : Zone) → at + zone-words ≤ length ws → zoneAt (overwrite ws at (codes z)) at ≡ z
 written-zone ws at z h = zone-of-codes (overwrite ws at (codes z)) at z (λ k p. overwrite-in ws at (codes z) h k p)
 
 -- six words stored one after the other
-pub six-stores : (ws : List ℤ) (at : ℕ) (v0 v1 v2 v3 v4 v5 : ℤ) → at + 6 ≤ length ws →
+pub six-stores : (ws : List ℤ) (at : ℕ) (v0 v1 v2 v3 v4 v5 : ℤ) → at + zone-words ≤ length ws →
     set (set (set (set (set (set ws at v0) (at + 1) v1) (at + 2) v2) (at + 3) v3) (at + 4) v4) (at + 5) v5 ≡ overwrite ws at (v0 ∷ v1 ∷ v2 ∷ v3 ∷ v4 ∷ v5 ∷ [])
 unfolding overwrite
 six-stores ws at v0 v1 v2 v3 v4 v5 h =
@@ -95,4 +95,4 @@ six-stores ws at v0 v1 v2 v3 v4 v5 h =
     let e3 : at + 3 ≡ suc (suc (suc at)) = omega arith in
     let e4 : at + 4 ≡ suc (suc (suc (suc at))) = omega arith in
     let e5 : at + 5 ≡ suc (suc (suc (suc (suc at)))) = omega arith in
-    rw (e1, e2, e3, e4, e5) (sets-eq vs ws at h ∙ append-assoc (take at ws) vs (drop (at + 6) ws))
+    rw (e1, e2, e3, e4, e5) (sets-eq vs ws at h ∙ append-assoc (take at ws) vs (drop (at + zone-words) ws))

@@ -3,7 +3,7 @@ use mathlib.Core.List.{List, [], _∷_, _++_}
 use Prim.Native.Nat.{ℕ, _+_}
 use lib.IntN.{ℤ, pos}
 use lib.ListN.{length, getD, take, drop}
-use Rattle.zone.specs.Limit.{code, decode}
+use Rattle.limit.specs.Limit.{code, decode}
 use Rattle.zone.specs.declared.Zone.{Zone}
 
 -- "6 words a zone"

@@ -2,19 +2,26 @@
 // lies to another, of their words alone.
 //
 // specs/Words.antt says which zone stands where; proofs/Words.antt has the laws that crates above cite.
-use zone::Limit;
-use zone::Nesting;
+use limit::Limit;
 use zone::Zone;
 ghost use mathlib.Core.Path.{_≡_};
 ghost use mathlib.Core.List.{[], _∷_};
 ghost use Prim.Native.Nat.{_+_, _≤_, _<_};
 ghost use lib.ListN.{length};
-ghost use Rattle.zone.specs.Limit.{at-most, decode};
-ghost use Rattle.zone.specs.Zone.{contains, nesting, Ranged, Contains};
-ghost use Rattle.words.specs.Words.{word, codes, zoneAt, overwrite};
+ghost use Rattle.limit.specs.Limit.{at-most, most-ticks, decode};
+ghost use Rattle.zone.specs.Zone.{contains, Ranged, Contains};
+ghost use Rattle.words.specs.Words.{zone-words, word, codes, zoneAt, overwrite};
+ghost use Rattle.words.specs.Nesting.{nesting, Nests};
 
 // The words of a zone.
 pub const ZONE_WORDS: usize = 6;
+
+// How one zone lies to another: inside it (or the same), around it, or neither.
+pub enum Nesting {
+    Inside,
+    Around,
+    Apart,
+}
 
 fn limit_at(words: &[i32], at: usize) -> Limit
     requires { ⌜ at < length (now words) ⌝ }
@@ -26,7 +33,7 @@ fn limit_at(words: &[i32], at: usize) -> Limit
 
 // The zone whose six words stand from `at` on.
 pub fn read_zone(words: &[i32], at: usize) -> Zone
-    requires { ⌜ at + 6 ≤ length (now words) ⌝ }
+    requires { ⌜ at + zone-words ≤ length (now words) ⌝ }
     ensures { λ r. ⌜ r ≡ zoneAt (now (words .entry)) at ⌝ }
 {
     Zone {
@@ -41,7 +48,7 @@ pub fn read_zone(words: &[i32], at: usize) -> Zone
 
 // Writes six words from `at` on; all other words stay as they were.
 fn write_words(words: &mut [i32], at: usize, s: i32, ns: i32, e: i32, ne: i32, l: i32, nl: i32)
-    requires { ⌜ at + 6 ≤ length (now words) ⌝ }
+    requires { ⌜ at + zone-words ≤ length (now words) ⌝ }
     ensures { λ _. ⌜ now (words .exit) ≡ overwrite (now (words .entry)) at (s ∷ ns ∷ e ∷ ne ∷ l ∷ nl ∷ []) ⌝ }
 {
     words[at] = s;
@@ -54,7 +61,7 @@ fn write_words(words: &mut [i32], at: usize, s: i32, ns: i32, e: i32, ne: i32, l
 
 // Writes the six words of a zone from `at` on; all other words stay as they were.
 pub fn write_zone(words: &mut [i32], at: usize, z: Zone)
-    requires { ⌜ (at + 6 ≤ length (now words)) × (Ranged 1_000_000 z) ⌝ }
+    requires { ⌜ (at + zone-words ≤ length (now words)) × (Ranged most-ticks z) ⌝ }
     ensures { λ _. ⌜ now (words .exit) ≡ overwrite (now (words .entry)) at (codes z) ⌝ }
 {
     let s = z.start;
@@ -77,7 +84,7 @@ pub fn write_zone(words: &mut [i32], at: usize, z: Zone)
 
 // Copies the zone whose words stand from `i` on in `from`; all other words stay as they were.
 pub fn copy_zone(words: &mut [i32], at: usize, from: &[i32], i: usize)
-    requires { ⌜ (at + 6 ≤ length (now words)) × (i + 6 ≤ length (now from)) ⌝ }
+    requires { ⌜ (at + zone-words ≤ length (now words)) × (i + zone-words ≤ length (now from)) ⌝ }
     ensures { λ _. ⌜ now (words .exit) ≡ overwrite (now (words .entry)) at (codes (zoneAt (now (from .entry)) i)) ⌝ }
 {
     let s = from[i];
@@ -92,7 +99,7 @@ pub fn copy_zone(words: &mut [i32], at: usize, from: &[i32], i: usize)
 // Copies the zone whose words stand from `from` on to `to` in the same words; all others stay as they were. The six are
 // read before the first is written, so that the two places may have words in common.
 pub fn move_zone(words: &mut [i32], from: usize, to: usize)
-    requires { ⌜ (from + 6 ≤ length (now words)) × (to + 6 ≤ length (now words)) ⌝ }
+    requires { ⌜ (from + zone-words ≤ length (now words)) × (to + zone-words ≤ length (now words)) ⌝ }
     ensures { λ _. ⌜ now (words .exit) ≡ overwrite (now (words .entry)) to (codes (zoneAt (now (words .entry)) from)) ⌝ }
 {
     let s = words[from];
@@ -115,7 +122,7 @@ fn word_at_most(inner: &[i32], i: usize, outer: &[i32], j: usize) -> bool
 // Whether the tight zone whose words stand from `i` on in `inner` lies inside the one from `j` on in `outer`. The starts
 // mostly settle it. The other four limits are compared in one go.
 pub fn included(inner: &[i32], i: usize, outer: &[i32], j: usize) -> bool
-    requires { ⌜ (i + 6 ≤ length (now inner)) × (j + 6 ≤ length (now outer)) ⌝ }
+    requires { ⌜ (i + zone-words ≤ length (now inner)) × (j + zone-words ≤ length (now outer)) ⌝ }
     ensures value { λ r. ⌜ r ≡ contains (zoneAt (now (outer .entry)) j) (zoneAt (now (inner .entry)) i) ⌝ }
     ensures meaning { λ r. ⌜ Contains (zoneAt (now (outer .entry)) j) (zoneAt (now (inner .entry)) i) r ⌝ }
 {
@@ -135,8 +142,9 @@ pub fn included(inner: &[i32], i: usize, outer: &[i32], j: usize) -> bool
 // higher upper limit cannot lie inside the other, so this way is not asked. Whether it is the one in `a` is asked first:
 // zones are mostly put in rising time, and `a` has the new one.
 pub fn nested(a: &[i32], i: usize, b: &[i32], j: usize) -> Nesting
-    requires { ⌜ (i + 6 ≤ length (now a)) × (j + 6 ≤ length (now b)) ⌝ }
-    ensures { λ r. ⌜ r ≡ nesting (zoneAt (now (a .entry)) i) (zoneAt (now (b .entry)) j) ⌝ }
+    requires { ⌜ (i + zone-words ≤ length (now a)) × (j + zone-words ≤ length (now b)) ⌝ }
+    ensures value { λ r. ⌜ r ≡ nesting (zoneAt (now (a .entry)) i) (zoneAt (now (b .entry)) j) ⌝ }
+    ensures meaning { λ r. ⌜ Nests (zoneAt (now (a .entry)) i) (zoneAt (now (b .entry)) j) r ⌝ }
 {
     if !word_at_most(a, i, b, j) {
         if included(b, j, a, i) {

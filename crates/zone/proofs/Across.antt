@@ -1,9 +1,10 @@
 -- The composition of two tight zones is tight as it stands: nothing is left to tighten.
 use mathlib.Core.Path.{_≡_, sym, ap, _∙_}
-use Rattle.zone.specs.Limit.{Limit, _≤ᴸ_, _⊕_, lesser, nought}
+use Rattle.limit.specs.declared.Limit.{Limit}
+use Rattle.limit.specs.Limit.{_≤ᴸ_, _⊕_, lesser, nought}
 use Rattle.zone.specs.Zone.{Zone, zone, where-room, across, compose}
 use Rattle.zone.proofs.Closed.{Closed, ClosedMaybe}
-use Rattle.zone.proofs.Order.{≤-refl, ≤-trans, flip, ⊕-mono, ⊕-comm, ⊕-assoc, fst, snd, right, left, mid, keep-l, keep-r, lesser-l, lesser-r, lesser-2}
+use Rattle.limit.proofs.Order.{≤-refl, ≤-trans, flip, ⊕-mono, ⊕-comm, ⊕-assoc, fst, snd, right, left, mid, keep-l, keep-r, lesser-l, lesser-r, lesser-2}
 use Rattle.zone.proofs.Tighten.{room-is}
 
 -- a way from a time of one zone to the origin, over a time of the other zone

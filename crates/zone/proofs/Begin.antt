@@ -5,12 +5,14 @@ use native.Mathlib.Omega.{arith}
 use borrow.Author.Needs.{needs}
 use lib.IntN.{pos, negℤ}
 use Rattle.signed.proofs.Integers.{neg, diff}
-use Rattle.zone.specs.Time.{Time, origin, tick, _≤ᵀ_, _<ᵀ_, _≈ᵀ_}
-use Rattle.zone.specs.Limit.{Limit, AtMost, Below, Within, _≤ᴸ_, _⊕_, nought}
-use Rattle.zone.specs.Zone.{Zone, In, InMaybe, run, diagonal, everything, limited, band}
-use Rattle.zone.proofs.Linear.{up, dn, un, lin-le, sum-ud, sum-un}
-use Rattle.zone.proofs.Order.{≤-trans, lesser-l, lesser-r, lesser-of}
-use Rattle.zone.proofs.Common.{within-widen, within-through, within-≤, within-<, within-to, within-from}
+use Rattle.limit.specs.Time.{Time, origin, tick, _≤ᵀ_, _<ᵀ_, _≈ᵀ_}
+use Rattle.limit.specs.declared.Limit.{Limit}
+use Rattle.limit.specs.declared.Limit.the-variants.{AtMost, Below}
+use Rattle.limit.specs.Limit.{Within, _≤ᴸ_, _⊕_, nought}
+use Rattle.zone.specs.Zone.{Zone, In, InMaybe, Between, run, diagonal, everything, limited, band}
+use Rattle.limit.proofs.Linear.{up, dn, un, lin-le, sum-ud, sum-un}
+use Rattle.limit.proofs.Order.{≤-trans, lesser-l, lesser-r, lesser-of}
+use Rattle.limit.proofs.Common.{within-widen, within-through, within-≤, within-<, within-to, within-from}
 use Rattle.zone.proofs.Closed.{Closed, ClosedMaybe}
 use Rattle.zone.proofs.Tighten.{tighten-is, tighten-tight}
 
@@ -86,7 +88,7 @@ module _ (from to : ℕ) where
 
   -- ---- all stretches
 
-  pub everything-members : (x y : Time) → In (everything from to) x y ↔ ((tick from ≤ᵀ x) × (x ≤ᵀ y) × (y ≤ᵀ tick to))
+  pub everything-members : (x y : Time) → In (everything from to) x y ↔ Between from to x y
   unfolding everything
   everything-members x y = (
     λ h. (within-from from x .0 (h .nstart), within-≤ x y .0 (h .nlength), within-to to y .0 (h .end)),
@@ -147,7 +149,7 @@ module _ (from to : ℕ) where
       },
     )
 
-    pub band-members : (x y : Time) → InMaybe (band from to longest shortest) x y ↔ (((tick from ≤ᵀ x) × (x ≤ᵀ y) × (y ≤ᵀ tick to)) × Within longest y x × Within shortest x y)
+    pub band-members : (x y : Time) → InMaybe (band from to longest shortest) x y ↔ (Between from to x y × Within longest y x × Within shortest x y)
     unfolding band
     band-members x y =
         let t = tighten-is x y (limited (everything from to) longest shortest) in

@@ -1,5 +1,5 @@
 -- The closed form of a tight zone, on its limits alone. Tight.antt proves that it is what tight means.
-use Rattle.zone.specs.Limit.{_≤ᴸ_, _⊕_, nought}
+use Rattle.limit.specs.Limit.{_≤ᴸ_, _⊕_, nought}
 use Rattle.zone.specs.Zone.{Zone, MaybeZone, zone, empty}
 
 -- no limit exceeds the sum of two others on the same way, no way round is negative, and 0 ≤ start ≤ end is among the limits

@@ -2,19 +2,21 @@
 use mathlib.Core.Path.{refl}
 use mathlib.Core.Logic.{_↔_}
 use mathlib.Core.List.{[], _∷_}
-use Prim.Native.Nat.{ℕ, _+_, _-_, _*_, _<_, _≤_}
+use Prim.Native.Nat.{ℕ, _+_, _*_, _<_, _≤_}
 use native.Mathlib.Nat.{mul-le-mul-right, mul-pos}
 use native.Mathlib.Omega.{arith}
 use lib.Dec.{T}
-use Rattle.zone.specs.Time.{Time}
-use Rattle.zone.specs.Limit.{Limit, _≤ᴸ_, _⊕_, nought}
+use Rattle.limit.specs.Time.{Time}
+use Rattle.limit.specs.declared.Limit.{Limit}
+use Rattle.limit.specs.Limit.{_≤ᴸ_, _⊕_, nought}
 use Rattle.zone.specs.Zone.{Zone, In, zone, InMaybe, where-room, across, compose}
 use Rattle.zone.proofs.Closed.{Closed}
-use Rattle.zone.proofs.Linear.{up, dn, un-le, le-lin, nought-up, nought-dn, nought-un}
-use Rattle.zone.proofs.Common.{KeepsOver, Is, Is-scale, over-scale, widen, through, self, round, InOver, in-over}
-use Rattle.zone.proofs.Order.{≤-trans, flip, lesser-l, lesser-r, lesser-of}
+use Rattle.limit.proofs.Linear.{up, dn, un-le, le-lin, nought-up, nought-dn, nought-un}
+use Rattle.limit.proofs.Common.{KeepsOver, Is, Is-scale, over-scale, widen, through, self, round}
+use Rattle.zone.proofs.Common.{InOver, in-over}
+use Rattle.limit.proofs.Order.{≤-trans, flip, lesser-l, lesser-r, lesser-of}
 use Rattle.zone.proofs.Tighten.{room-is}
-use Rattle.zone.proofs.Helly.{helly}
+use Rattle.limit.proofs.Helly.{helly}
 
 pub forwards : (D X : ℕ) {l : Limit} → l ≤ᴸ nought → up l * D ≤ X + dn l * D
 forwards D X {l} h =

@@ -8,12 +8,15 @@ use native.Mathlib.Omega.{arith}
 use lib.IntN.{ℤ, pos, _-ℤ_, _*ℤ_}
 use Rattle.signed.proofs.Integers.{arithZ, diff, times, to-<}
 use Rattle.signed.proofs.Integers as Z
-use Rattle.zone.specs.Time.{Time, origin, difference, scaled}
-use Rattle.zone.specs.Limit.{Limit, AtMost, Below, Within, _≤ᴸ_, _⊕_, nought}
+use Rattle.limit.specs.Time.{Time, origin, difference, scaled}
+use Rattle.limit.specs.declared.Limit.{Limit}
+use Rattle.limit.specs.declared.Limit.the-variants.{AtMost, Below}
+use Rattle.limit.specs.Limit.{Within, _≤ᴸ_, _⊕_, nought}
 use Rattle.zone.specs.Zone.{Zone, In, Side, on-start, on-nstart, on-end, on-nend, on-length, on-nlength, limit, upper, lower, opposite, Keeps}
-use Rattle.zone.proofs.Linear.{up, dn, un, un-le, le-lin, lin-le, sum-ud, sum-un}
-use Rattle.zone.proofs.Order.{≤-trans}
-use Rattle.zone.proofs.Common.{Is, Is-origin, KeepsOver, bridge, in-over, is-left, is-right, both-den}
+use Rattle.limit.proofs.Linear.{up, dn, un, un-le, le-lin, lin-le, sum-ud, sum-un}
+use Rattle.limit.proofs.Order.{≤-trans}
+use Rattle.limit.proofs.Common.{Is, Is-origin, KeepsOver, bridge, is-left, is-right, both-den}
+use Rattle.zone.proofs.Common.{in-over}
 use Rattle.zone.proofs.Closed.{Closed}
 use Rattle.zone.proofs.Sharp.{on, sharp}
 

@@ -1,29 +1,31 @@
 -- The laws of zones: what the crates above cite of them, so that none looks inside a limit. (Laws of times and of words in a buffer have
 -- files of their own.) x, y and t are times num / den of any denominators.
 use mathlib.Core.Path.{_≡_, refl, sym, ap, subst, _∙_}
-use mathlib.Core.Bool.{Bool, true, false, cond}
+use mathlib.Core.Bool.{Bool, true, false}
 use mathlib.Core.Logic.{_↔_}
-use Prim.Native.Nat.{ℕ, _+_, _-_, _≤_, _<_}
+use Prim.Native.Nat.{ℕ, zero, suc, _+_, _-_, _≤_, _<_}
 use native.Mathlib.Omega.{arith}
+use borrow.Author.Tests.{le-ltb}
 use lib.Dec.{T}
 use lib.IntN.{ℤ, pos, _-ℤ_, _*ℤ_}
 use Rattle.signed.proofs.Integers.{arithZ, neg}
-use Rattle.zone.specs.Time.{Time, origin, tick, difference, scaled, _≤ᵀ_, _<ᵀ_, _≈ᵀ_}
-use Rattle.zone.specs.Limit.{Limit, AtMost, Below, Within, _≤ᴸ_, nought}
-use Rattle.zone.specs.Zone.{Zone, MaybeZone, zone, empty, In, InMaybe, Proper, Side, limit, upper, lower, Keeps, Loses, Tight, TightMaybe, tighten, meet, compose, contains, Nesting, nesting, inside, around, apart, across, run, diagonal, everything, band, Ranged}
-use Rattle.zone.proofs.Linear.{up, dn, sum-ud}
-use Rattle.zone.proofs.Order as order
-use Rattle.zone.proofs.Times as times
+use Rattle.limit.specs.Time.{Time, origin, tick, difference, scaled, _≤ᵀ_, _<ᵀ_, _≈ᵀ_}
+use Rattle.limit.specs.declared.Limit.{Limit}
+use Rattle.limit.specs.declared.Limit.the-variants.{AtMost, Below}
+use Rattle.limit.specs.Limit.{Within, _≤ᴸ_, nought, most}
+use Rattle.zone.specs.Zone.{Zone, MaybeZone, zone, empty, In, InMaybe, Proper, Side, limit, upper, lower, Keeps, Loses, Tight, TightMaybe, tighten, meet, compose, contains, Includes, Between, across, run, diagonal, everything, band, Ranged}
+use Rattle.limit.proofs.Linear.{up, dn, sum-ud}
+use Rattle.limit.proofs.Order as order
+use Rattle.limit.proofs.Times as times
 use Rattle.zone.proofs.Closed.{Closed}
 use Rattle.zone.proofs.Tighten as tightening
 use Rattle.zone.proofs.Tighten.{_⊑_}
 use Rattle.zone.proofs.Sharp.{on}
 use Rattle.zone.proofs.Narrow.{member}
-use Rattle.zone.proofs.Tight.{tight-is, tight-maybe, contains-⊑, ⊑-antisym}
+use Rattle.zone.proofs.Tight.{tight-is, contains-⊑, ⊑-antisym}
 use Rattle.zone.proofs.Fine as fine
 use Rattle.zone.proofs.Fine.{multiple}
-use Rattle.zone.proofs.Means.{tighten-means, meet-means, compose-means, contains-means}
-use Rattle.zone.proofs.Begin as begin
+use Rattle.zone.proofs.Means.{tighten-means, meet-means, compose-means, contains-means, run-means, diagonal-means, everything-means, band-means}
 use Rattle.zone.proofs.Range.{inside-is, range, num-le}
 use Rattle.zone.proofs.Lengths as lengths
 use Rattle.zone.proofs.Lengths.{Extends, span, composed}
@@ -154,11 +156,11 @@ proper-compose {z} {w} p q e =
 -- ==== 5. Inclusion
 
 -- `contains z w`, and inclusion on words, which answers the same: exactly if every member of w is a member of z
-pub contains-members : (z : Zone) {w : Zone} → Tight w → T (contains z w) ↔ ((x y : Time) → In w x y → In z x y)
+pub contains-members : (z : Zone) {w : Zone} → Tight w → T (contains z w) ↔ Includes z w
 contains-members z {w} = contains-means z w refl .members
 
 -- every member stays one (of any zones)
-pub contains-in : (z w : Zone) → T (contains z w) → (x y : Time) → In w x y → In z x y
+pub contains-in : (z w : Zone) → T (contains z w) → Includes z w
 contains-in z w t x y h = tightening.⊑-in (contains-⊑ z w .0 t) h
 
 pub contains-refl : (z : Zone) → T (contains z z)
@@ -193,34 +195,6 @@ same-zone? z w = go (contains z w) (contains w z) refl refl
     go true true p q = yes (contains-antisym z w (subst T (sym p) tt) (subst T (sym q) tt))
     go false b p q = no (λ e. subst T (ap (contains z) e ∙ p) (contains-refl z))
     go true false p q = no (λ e. subst T (ap (λ (v : Zone). contains v z) e ∙ q) (contains-refl z))
-
--- how two zones lie, as inclusion both ways
-abbrev pub is-inside : Nesting → Bool
-is-inside inside = true
-is-inside around = false
-is-inside apart = false
-
-abbrev pub is-around : Nesting → Bool
-is-around inside = false
-is-around around = true
-is-around apart = false
-
-pub nesting-inside : (z w : Zone) {r : Nesting} → r ≡ nesting z w → contains w z ≡ is-inside r
-unfolding nesting
-nesting-inside z w e = go (contains w z) (contains z w) ∙ ap is-inside (sym e)
-  where
-    go : (p q : Bool) → p ≡ is-inside (cond p inside (cond q around apart))
-    go true q = refl
-    go false true = refl
-    go false false = refl
-
-pub nesting-around : (z w : Zone) {r : Nesting} → r ≡ nesting z w → contains w z ≡ false → contains z w ≡ is-around r
-unfolding nesting
-nesting-around z w e f = go (contains z w) ∙ ap (λ (p : Bool). is-around (cond p inside (cond (contains z w) around apart))) (sym f) ∙ ap is-around (sym e)
-  where
-    go : (q : Bool) → q ≡ is-around (cond false inside (cond q around apart))
-    go true = refl
-    go false = refl
 
 -- ==== 6. For the bound on rounds, and for the machine's numbers
 
@@ -281,22 +255,22 @@ ranged-more h r = record { start = omega (arith, r .start); nstart = omega (arit
 -- ==== 7. The zones to begin with
 
 pub run-members : (from to : ℕ) (x y : Time) → In (run from to) x y ↔ ((tick from ≤ᵀ x) × (x <ᵀ y) × (y ≤ᵀ tick to))
-run-members = begin.run-members
+run-members from to = run-means from to refl .members
 
 pub diagonal-members : (from to : ℕ) (x y : Time) → In (diagonal from to) x y ↔ ((tick from ≤ᵀ x) × (x ≈ᵀ y) × (y ≤ᵀ tick to))
-diagonal-members = begin.diagonal-members
+diagonal-members from to = diagonal-means from to refl .members
 
-pub everything-members : (from to : ℕ) (x y : Time) → In (everything from to) x y ↔ ((tick from ≤ᵀ x) × (x ≤ᵀ y) × (y ≤ᵀ tick to))
-everything-members = begin.everything-members
+pub everything-members : (from to : ℕ) (x y : Time) → In (everything from to) x y ↔ Between from to x y
+everything-members from to = everything-means from to refl .members
 
 pub band-members : (from to : ℕ) (longest shortest : Limit) (x y : Time)
-    → InMaybe (band from to longest shortest) x y ↔ (((tick from ≤ᵀ x) × (x ≤ᵀ y) × (y ≤ᵀ tick to)) × Within longest y x × Within shortest x y)
-band-members = begin.band-members
+    → InMaybe (band from to longest shortest) x y ↔ (Between from to x y × Within longest y x × Within shortest x y)
+band-members from to longest shortest = band-means from to longest shortest refl .members
 
 pub proper-run : {from to : ℕ} (s e : ℕ) → from ≤ s → s < e → e ≤ to → Proper from to (run s e)
 proper-run s e a b c =
     record {
-      tight = tight-is .1 (begin.run-closed s e b);
+      tight = run-means s e refl .tight b;
       inside =
           record {
             inside = λ x y h. let m = run-members s e x y .0 h in
@@ -306,14 +280,37 @@ proper-run s e a b c =
 
 pub proper-diagonal : (from to : ℕ) → from ≤ to → Proper from to (diagonal from to)
 proper-diagonal from to h =
-    record { tight = tight-is .1 (begin.diagonal-closed from to h); inside = record { inside = λ x y p. let m = diagonal-members from to x y .0 p in (m .0, times.≈-≤ (m .1) .0, m .2) } }
+    record { tight = diagonal-means from to refl .tight h; inside = record { inside = λ x y p. let m = diagonal-members from to x y .0 p in (m .0, times.≈-≤ (m .1) .0, m .2) } }
 
 pub proper-everything : (from to : ℕ) → from ≤ to → Proper from to (everything from to)
-proper-everything from to h = record { tight = tight-is .1 (begin.everything-closed from to h); inside = record { inside = λ x y p. everything-members from to x y .0 p } }
+proper-everything from to h = record { tight = everything-means from to refl .tight h; inside = record { inside = λ x y p. everything-members from to x y .0 p } }
 
 pub proper-band : (from to : ℕ) (longest shortest : Limit) {z : Zone} → band from to longest shortest ≡ zone z → Proper from to z
 proper-band from to longest shortest e =
     record {
-      tight = subst TightMaybe e (tight-maybe (band from to longest shortest) (begin.band-closed from to longest shortest));
+      tight = band-means from to longest shortest (sym e) .tight;
       inside = record { inside = λ x y p. band-members from to longest shortest x y .0 (subst (λ (r : MaybeZone). InMaybe r x y) (sym e) p) .0 };
+    }
+
+pos-sub : (from : ℕ) {to : ℕ} → from ≤ to → pos to -ℤ pos from ≡ pos (to - from)
+pos-sub zero h = ap pos (omega arith)
+pos-sub (suc b) {to} h = rw (le-ltb to (suc b) h)
+
+-- a stretch inside from..to lasts at most to − from
+pub whole-most : {from to : ℕ} {x y : Time} → from ≤ to → tick from ≤ᵀ x → x ≤ᵀ y → y ≤ᵀ tick to → Within (most (to - from)) y x
+unfolding everything
+whole-most {from} {to} {x} {y} h a b c = subst (λ (v : ℤ). Within (AtMost v) y x) (pos-sub from h) (everything-members from to x y .1 (a, b, c) .length)
+
+-- ==== 8. Equal times
+
+-- equal times are members alike
+pub in-same : {z : Zone} {x y u v : Time} → x ≈ᵀ u → y ≈ᵀ v → In z x y → In z u v
+in-same {z} p q h =
+    record {
+      start = times.within-same (z .start) p (times.≈-refl origin) (h .start);
+      nstart = times.within-same (z .nstart) (times.≈-refl origin) p (h .nstart);
+      end = times.within-same (z .end) q (times.≈-refl origin) (h .end);
+      nend = times.within-same (z .nend) (times.≈-refl origin) q (h .nend);
+      length = times.within-same (z .length) q p (h .length);
+      nlength = times.within-same (z .nlength) p q (h .nlength);
     }

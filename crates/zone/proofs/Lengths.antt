@@ -2,12 +2,13 @@
 -- number of that limit; `Extends z u` says that u may be z composed with more zones: only its limits on end and length may be higher.
 use mathlib.Core.Path.{_≡_, refl, sym, subst}
 use mathlib.Core.Bool.{Bool, true, false}
-use Prim.Native.Nat.{ℕ, zero, suc, _+_, _-_, _≤_, min}
+use Prim.Native.Nat.{ℕ, zero, suc, _+_, _≤_, min}
 use native.Mathlib.Omega.{arith}
-use Rattle.zone.specs.Limit.{Limit, at-most, _≤ᴸ_, _⊕_, lesser, nought}
-use Rattle.zone.specs.Zone.{Zone, zone, empty, where-room, across, compose}
-use Rattle.zone.proofs.Linear.{up, dn, un-le, le-lin, lin-le, sum-ud, sum-un, one-side, nought-up, nought-dn, nought-un}
-use Rattle.zone.proofs.Order.{≤-refl, ≤-trans, not≤, ⊕-mono, ⊕-comm, ⊕-assoc, lesser-l, lesser-r, lesser-of}
+use Rattle.limit.specs.declared.Limit.{Limit}
+use Rattle.limit.specs.Limit.{at-most, _≤ᴸ_, _⊕_, lesser, nought}
+use Rattle.zone.specs.Zone.{Zone, zone, where-room, across, compose}
+use Rattle.limit.proofs.Linear.{up, dn, un-le, le-lin, lin-le, sum-ud, sum-un, one-side, nought-up, nought-dn, nought-un}
+use Rattle.limit.proofs.Order.{≤-refl, ≤-trans, not≤, ⊕-mono, ⊕-comm, ⊕-assoc, lesser-l, lesser-r, lesser-of}
 use Rattle.zone.proofs.Closed.{Closed}
 use Rattle.zone.proofs.Tighten.{_⊑_, room-is}
 use Rattle.zone.proofs.Range.{num-le}

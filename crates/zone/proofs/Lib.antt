@@ -1,7 +1,4 @@
-pub mod Linear
-pub mod Order
 pub mod Common
-pub mod Helly
 pub mod Closed
 pub mod Tighten
 pub mod Compose
@@ -10,13 +7,11 @@ pub mod Narrow
 pub mod Sharp
 pub mod Tight
 pub mod Fine
-pub mod Means
 pub mod Begin
+pub mod Means
 pub mod Range
 pub mod Lengths
-pub mod Times
 pub mod Steps
 pub mod Ranges
-pub mod Coding
 pub mod Signed
 pub mod Laws

@@ -1,16 +1,18 @@
 -- A closed zone has a member; and with one more limit on one of its sides, which leaves room, it is again a closed zone.
 use mathlib.Core.Path.{refl}
 use mathlib.Core.List.{[], _∷_}
-use Prim.Native.Nat.{ℕ, _-_, _*_, _<_, _≤_}
+use Prim.Native.Nat.{ℕ, _*_, _<_}
 use native.Mathlib.Omega.{arith}
-use Rattle.zone.specs.Time.{Time}
-use Rattle.zone.specs.Limit.{Limit, _≤ᴸ_, _⊕_, lesser, nought}
+use Rattle.limit.specs.Time.{Time}
+use Rattle.limit.specs.declared.Limit.{Limit}
+use Rattle.limit.specs.Limit.{_≤ᴸ_, _⊕_, lesser, nought}
 use Rattle.zone.specs.Zone.{Side, limit, opposite, on-start, on-nstart, on-end, on-nend, on-length, on-nlength, Zone, In}
 use Rattle.zone.proofs.Closed.{Closed}
-use Rattle.zone.proofs.Common.{over-scale, widen, self, InOver, in-over}
-use Rattle.zone.proofs.Order.{≤-refl, ≤-trans, flip, ⊕-mono, ⊕-assoc, fst, snd, keep-l, lesser-l, lesser-r, lesser-of, lesser-2}
+use Rattle.limit.proofs.Common.{over-scale, widen, self}
+use Rattle.zone.proofs.Common.{InOver, in-over}
+use Rattle.limit.proofs.Order.{≤-refl, ≤-trans, flip, ⊕-mono, ⊕-assoc, fst, snd, keep-l, lesser-l, lesser-r, lesser-of, lesser-2}
 use Rattle.zone.proofs.Tighten.{_⊑_}
-use Rattle.zone.proofs.Helly.{helly}
+use Rattle.limit.proofs.Helly.{helly}
 use Rattle.zone.proofs.Compose.{forwards}
 
 -- ---- a member

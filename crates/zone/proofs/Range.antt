@@ -1,15 +1,17 @@
 -- The numbers of a closed zone whose end is at most d lie between −d and d: what a program's integers have to hold. And what inside
 -- ticks from..to says of a closed zone's limits.
 use mathlib.Core.Logic.{_↔_}
-use Prim.Native.Nat.{ℕ, _+_, _-_, _≤_}
+use Prim.Native.Nat.{ℕ, _+_, _≤_}
 use native.Mathlib.Omega.{arith}
 use lib.IntN.{pos, negℤ}
 use Rattle.signed.proofs.Integers.{size}
-use Rattle.zone.specs.Time.{origin}
-use Rattle.zone.specs.Limit.{Limit, AtMost, _≤ᴸ_, _⊕_, nought, value, Small}
-use Rattle.zone.specs.Zone.{Zone, Inside, on-nstart, on-end, limit, Ranged}
-use Rattle.zone.proofs.Linear.{up, dn, un-le, le-lin, sum-ud, one-side, nought-up, nought-dn}
-use Rattle.zone.proofs.Common.{within-widen, within-≤, within-to, within-from}
+use Rattle.limit.specs.Time.{origin}
+use Rattle.limit.specs.declared.Limit.{Limit}
+use Rattle.limit.specs.declared.Limit.the-variants.{AtMost}
+use Rattle.limit.specs.Limit.{_≤ᴸ_, _⊕_, nought, value, Small}
+use Rattle.zone.specs.Zone.{Zone, Inside, on-nstart, on-end, Ranged}
+use Rattle.limit.proofs.Linear.{up, dn, un-le, le-lin, sum-ud, one-side, nought-up, nought-dn}
+use Rattle.limit.proofs.Common.{within-widen, within-≤, within-to, within-from}
 use Rattle.zone.proofs.Closed.{Closed}
 use Rattle.zone.proofs.Sharp.{sharp, by-contra}
 

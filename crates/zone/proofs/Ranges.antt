@@ -1,13 +1,14 @@
 -- The ranges that the operations hand on to each other.
 use Prim.Native.Nat.{ℕ, suc, _+_, _≤_}
 use native.Mathlib.Omega.{arith}
-use lib.IntN.{ℤ, pos, negℤ, _+ℤ_, _-ℤ_}
+use lib.IntN.{pos, negℤ, _+ℤ_, _-ℤ_}
 use lib.Signed.{mag}
 use Rattle.signed.proofs.Integers.{arithZ, sum, diff, neg, size}
-use Rattle.zone.specs.Limit.{Limit, _⊕_, lesser, value, Small}
+use Rattle.limit.specs.declared.Limit.{Limit}
+use Rattle.limit.specs.Limit.{_⊕_, lesser, value, Small}
 use Rattle.zone.specs.Zone.{Zone, tighter, both, limited, everything, Ranged}
-use Rattle.zone.proofs.Linear.{sum-value}
-use Rattle.zone.proofs.Order.{lesser-of}
+use Rattle.limit.proofs.Linear.{sum-value}
+use Rattle.limit.proofs.Order.{lesser-of}
 
 pub small-sum : {n : ℕ} (l m : Limit) → Small n l → Small n m → Small (suc (n + n)) (l ⊕ m)
 small-sum {n} l m h k = rw (sum-value l m) (omega (arithZ, sum (value l) (value m), size (value l), size (value m), size (value l +ℤ value m)))

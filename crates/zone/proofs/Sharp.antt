@@ -6,13 +6,15 @@ use native.Mathlib.Omega.{arith}
 use lib.Dec.{T}
 use lib.IntN.{negℤ}
 use Rattle.signed.proofs.Integers.{neg}
-use Rattle.zone.specs.Time.{Time, origin}
-use Rattle.zone.specs.Limit.{Limit, AtMost, Below, Within, at-most, _≤ᴸ_, _⊕_, nought}
+use Rattle.limit.specs.Time.{Time, origin}
+use Rattle.limit.specs.declared.Limit.{Limit}
+use Rattle.limit.specs.declared.Limit.the-variants.{AtMost, Below}
+use Rattle.limit.specs.Limit.{Within, at-most, _≤ᴸ_, _⊕_, nought}
 use Rattle.zone.specs.Zone.{Zone, In, Side, on-start, on-nstart, on-end, on-nend, on-length, on-nlength, limit, upper, lower, opposite, Keeps, Loses}
-use Rattle.zone.proofs.Linear.{up, dn, un, un-le, lin-le, sum-ud, sum-un, nought-up, nought-dn, nought-un, within-lin}
-use Rattle.zone.proofs.Common.{within-widen, within-≤}
+use Rattle.limit.proofs.Linear.{up, dn, un, un-le, lin-le, sum-ud, sum-un, nought-up, nought-dn, nought-un, within-lin}
+use Rattle.limit.proofs.Common.{within-widen, within-≤}
 use Rattle.zone.proofs.Closed.{Closed}
-use Rattle.zone.proofs.Tighten.{_⊑_, ⊑-in}
+use Rattle.zone.proofs.Tighten.{⊑-in}
 use Rattle.zone.proofs.Narrow.{member, narrowed}
 
 -- the limit on the negated difference that just fails m

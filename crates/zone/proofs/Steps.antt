@@ -1,7 +1,8 @@
 -- The steps of the functions' code: what a test that was passed or failed says of the definition.
 use mathlib.Core.Path.{_≡_, refl, sym, ap, _∙_}
 use mathlib.Core.Bool.{Bool, true, false, not, cond}
-use Rattle.zone.specs.Limit.{Limit, at-most, _⊕_, nought}
+use Rattle.limit.specs.declared.Limit.{Limit}
+use Rattle.limit.specs.Limit.{at-most, _⊕_, nought}
 use Rattle.zone.specs.Zone.{Zone, MaybeZone, zone, empty, where-room, tighter, tighten}
 
 pub is-false : {b : Bool} → not b ≡ true → b ≡ false

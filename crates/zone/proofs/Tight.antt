@@ -8,11 +8,14 @@ use native.Mathlib.Omega.{arith}
 use lib.Dec.{T}
 use lib.IntN.{pos, _-ℤ_}
 use Rattle.signed.proofs.Integers.{arithZ, diff}
-use Rattle.zone.specs.Time.{Time, origin}
-use Rattle.zone.specs.Limit.{Limit, AtMost, Below, at-most, _≤ᴸ_, value}
+use Rattle.limit.specs.Time.{Time, origin}
+use Rattle.limit.specs.declared.Limit.{Limit}
+use Rattle.limit.specs.declared.Limit.the-variants.{AtMost, Below}
+use Rattle.limit.specs.Limit.{at-most, _≤ᴸ_, value}
 use Rattle.zone.specs.Zone.{Zone, In, MaybeZone, zone, empty, Side, on-start, on-nstart, on-end, on-nend, on-length, on-nlength, limit, Loses, Tight, TightMaybe, contains}
-use Rattle.zone.proofs.Linear.{up, dn, un, un-le, le-lin}
-use Rattle.zone.proofs.Common.{through, round, InOver, in-ground, both-den, within-through, within-≤, from-0}
+use Rattle.limit.proofs.Linear.{up, dn, un, un-le, le-lin}
+use Rattle.limit.proofs.Common.{through, round, both-den, within-through, within-≤, from-0}
+use Rattle.zone.proofs.Common.{InOver, in-ground}
 use Rattle.zone.proofs.Closed.{Closed, ClosedMaybe}
 use Rattle.zone.proofs.Tighten.{_⊑_, ⊑-in}
 use Rattle.zone.proofs.Sharp.{on, sharp, by-contra}

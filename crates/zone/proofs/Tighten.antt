@@ -2,15 +2,17 @@
 use mathlib.Core.Path.{_≡_, refl, sym, ap, _∙_}
 use mathlib.Core.Bool.{cond}
 use mathlib.Core.Logic.{_↔_}
-use Prim.Native.Nat.{ℕ, _-_, _<_, _≤_}
+use Prim.Native.Nat.{ℕ, _<_}
 use lib.Dec.{T-not}
-use Rattle.zone.specs.Time.{Time}
-use Rattle.zone.specs.Limit.{Limit, at-most, _≤ᴸ_, _⊕_, lesser, nought}
+use Rattle.limit.specs.Time.{Time}
+use Rattle.limit.specs.declared.Limit.{Limit}
+use Rattle.limit.specs.Limit.{at-most, _≤ᴸ_, _⊕_, lesser, nought}
 use Rattle.zone.specs.Zone.{Zone, In, MaybeZone, zone, empty, InMaybe, where-room, both, tighter, tighten, meet}
 use Rattle.zone.proofs.Closed.{Closed, ClosedMaybe}
-use Rattle.zone.proofs.Linear.{test}
-use Rattle.zone.proofs.Common.{in-ground, both-den, KeepsOver, widen, through, round, InOver}
-use Rattle.zone.proofs.Order.{≤-trans, flip, ⊕-mono, fst, snd, keep-l, lesser-l, lesser-r, lesser-of, lesser-2}
+use Rattle.limit.proofs.Linear.{test}
+use Rattle.zone.proofs.Common.{in-ground, InOver}
+use Rattle.limit.proofs.Common.{both-den, KeepsOver, widen, through, round}
+use Rattle.limit.proofs.Order.{≤-trans, flip, ⊕-mono, fst, snd, keep-l, lesser-l, lesser-r, lesser-of, lesser-2}
 
 pub room-is : (l m : Limit) (a : MaybeZone) (P : MaybeZone → Type 0) → (nought ≤ᴸ l ⊕ m → P a) → (¬ (nought ≤ᴸ l ⊕ m) → P empty) → P (where-room l m a)
 unfolding where-room

@@ -1,3 +1,1 @@
-pub mod Time
-pub mod Limit
 pub mod Zone

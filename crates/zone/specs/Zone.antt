@@ -1,16 +1,16 @@
 -- Zones: their members, when they are tight, and the operations on them.
 use mathlib.Core.Bool.{Bool, cond, _&&_}
 use mathlib.Core.Logic.{_↔_}
-use Prim.Native.Nat.{ℕ}
+use Prim.Native.Nat.{ℕ, _≤_, _<_}
 use lib.Dec.{T}
 use lib.IntN.{pos, negℤ, _-ℤ_}
-use Rattle.zone.specs.Time.{Time, origin, tick, _≤ᵀ_}
-use Rattle.zone.specs.Limit.{Limit, AtMost, Below, Within, at-most, _≤ᴸ_, _⊕_, lesser, nought, Small}
+use Rattle.limit.specs.Time.{Time, origin, tick, _≤ᵀ_, _<ᵀ_, _≈ᵀ_}
+use Rattle.limit.specs.declared.Limit.{Limit}
+use Rattle.limit.specs.declared.Limit.the-variants.{AtMost, Below}
+use Rattle.limit.specs.Limit.{Within, at-most, _≤ᴸ_, _⊕_, lesser, nought, most, least, Small}
 pub use Rattle.zone.specs.declared.Zone.{Zone}
 pub use Rattle.zone.specs.declared.MaybeZone.{MaybeZone}
 pub use Rattle.zone.specs.declared.MaybeZone.the-variants.{Zone as zone, Empty as empty}
-pub use Rattle.zone.specs.declared.Nesting.{Nesting}
-pub use Rattle.zone.specs.declared.Nesting.the-variants.{Inside as inside, Around as around, Apart as apart}
 
 -- ---- members
 
@@ -28,9 +28,17 @@ abbrev pub InMaybe : MaybeZone → Time → Time → Type 0
 InMaybe (zone z) x y = In z x y
 InMaybe empty x y = ⊥
 
--- every member has from ≤ start ≤ end ≤ to
+-- "A stretch has start ≤ end, both in 0 to d": of ticks from..to
+abbrev pub Between : ℕ → ℕ → Time → Time → Type 0
+Between from to x y = (tick from ≤ᵀ x) × (x ≤ᵀ y) × (y ≤ᵀ tick to)
+
+-- every member is a stretch of ticks from..to
 pub record Inside (from to : ℕ) (z : Zone) : Type 0 where
-  pub inside : (x y : Time) → In z x y → (tick from ≤ᵀ x) × (x ≤ᵀ y) × (y ≤ᵀ tick to)
+  pub inside : (x y : Time) → In z x y → Between from to x y
+
+-- every member of w is one of z: w lies inside z
+abbrev pub Includes : Zone → Zone → Type 0
+Includes z w = (x y : Time) → In w x y → In z x y
 
 -- ---- the six limits by name, for what is said of each: limit k bounds `upper k` − `lower k`
 
@@ -154,10 +162,6 @@ contains z w =
     at-most (w .start) (z .start) && at-most (w .nstart) (z .nstart) && at-most (w .end) (z .end)
     && at-most (w .nend) (z .nend) && at-most (w .length) (z .length) && at-most (w .nlength) (z .nlength)
 
--- how z lies to w: inside it, else around it, else neither
-unfoldable pub nesting : Zone → Zone → Nesting
-nesting z w = cond (contains w z) inside (cond (contains z w) around apart)
-
 -- ---- the zones to begin with, of ticks from..to
 
 -- a run: from ≤ start, end ≤ to, start < end
@@ -165,8 +169,8 @@ unfoldable pub run : ℕ → ℕ → Zone
 run from to =
     record {
       start = Below (pos to);
-      nstart = AtMost (negℤ (pos from));
-      end = AtMost (pos to);
+      nstart = least from;
+      end = most to;
       nend = Below (negℤ (pos from));
       length = AtMost (pos to -ℤ pos from);
       nlength = Below (pos 0);
@@ -176,10 +180,10 @@ run from to =
 unfoldable pub diagonal : ℕ → ℕ → Zone
 diagonal from to =
     record {
-      start = AtMost (pos to);
-      nstart = AtMost (negℤ (pos from));
-      end = AtMost (pos to);
-      nend = AtMost (negℤ (pos from));
+      start = most to;
+      nstart = least from;
+      end = most to;
+      nend = least from;
       length = nought;
       nlength = nought;
     }
@@ -188,10 +192,10 @@ diagonal from to =
 unfoldable pub everything : ℕ → ℕ → Zone
 everything from to =
     record {
-      start = AtMost (pos to);
-      nstart = AtMost (negℤ (pos from));
-      end = AtMost (pos to);
-      nend = AtMost (negℤ (pos from));
+      start = most to;
+      nstart = least from;
+      end = most to;
+      nend = least from;
       length = AtMost (pos to -ℤ pos from);
       nlength = nought;
     }
@@ -212,7 +216,7 @@ limited z longest shortest =
 unfoldable pub band : ℕ → ℕ → Limit → Limit → MaybeZone
 band from to longest shortest = tighten (limited (everything from to) longest shortest)
 
--- ---- what the machine's numbers have room for: every tight zone inside 0..1,000,000 is within 1,000,000 of 0
+-- ---- what the machine's numbers have room for: every tight zone inside ticks 0..n is within n of 0
 
 pub record Ranged (n : ℕ) (z : Zone) : Type 0 where
   pub start : Small n (z .start)
@@ -242,4 +246,26 @@ pub record Composes (z w : Zone) (r : MaybeZone) : Type 0 where
 
 -- the answer to whether w lies inside z
 pub record Contains (z w : Zone) (r : Bool) : Type 0 where
-  pub members : Tight w → T r ↔ ((x y : Time) → In w x y → In z x y)
+  pub members : Tight w → T r ↔ Includes z w
+
+-- ---- what the zones to begin with hold, and when they are tight
+
+-- a run: "s ≤ start, end ≤ e, start < end"
+pub record IsRun (from to : ℕ) (z : Zone) : Type 0 where
+  pub members : (x y : Time) → In z x y ↔ ((tick from ≤ᵀ x) × (x <ᵀ y) × (y ≤ᵀ tick to))
+  pub tight : from < to → Tight z
+
+-- the diagonal: "start = end from 0 to d"
+pub record IsDiagonal (from to : ℕ) (z : Zone) : Type 0 where
+  pub members : (x y : Time) → In z x y ↔ ((tick from ≤ᵀ x) × (x ≈ᵀ y) × (y ≤ᵀ tick to))
+  pub tight : from ≤ to → Tight z
+
+-- all stretches: "start ≤ end, both in 0 to d"
+pub record IsEverything (from to : ℕ) (z : Zone) : Type 0 where
+  pub members : (x y : Time) → In z x y ↔ Between from to x y
+  pub tight : from ≤ to → Tight z
+
+-- a band: "also lo ≤ end − start ≤ hi"
+pub record IsBand (from to : ℕ) (longest shortest : Limit) (r : MaybeZone) : Type 0 where
+  pub members : (x y : Time) → InMaybe r x y ↔ (Between from to x y × Within longest y x × Within shortest x y)
+  pub tight : TightMaybe r

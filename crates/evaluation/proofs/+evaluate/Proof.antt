@@ -1,13 +1,11 @@
--- The evaluator meets its contract. The measure is the depth that is left. Assumes nothing.
-use mathlib.Core.Path.{sym, subst, _∙_}
-use mathlib.Core.Logic.{inl}
+-- The evaluator meets its contract. The measure is the depth that is left.
+use mathlib.Core.Path.{_∙_}
 use native.Mathlib.Omega.{arith}
 use borrow.Author.Needs.{needs}
-use Rattle.list.specs.Slots.{Sound}
-use Rattle.list.proofs.Slots.{kept-trans, kept-within, listAt-kept}
-use Rattle.recording.proofs.Refusals.{read-ticks}
+use Rattle.list.proofs.Slots.{kept-trans}
 use Rattle.expression.proofs.Laws.{planted-some}
-use Rattle.evaluation.proofs.Evaluator.{node-is, few-channels, point-done, letter-done, operand-sound, operand-rounds, one-over, one-done, two-over-left, two-over-right, two-done}
+use Rattle.evaluation.proofs.Windows.{looks-ticks, few-channels}
+use Rattle.evaluation.proofs.Evaluator.{node-is, roomy, rest-falls, rest-few, room-left, room-right, room-three, room-second, kept-left, kept-right, kept-three, kept-one, operand-rounds, came-only, came-right, left-ready, point-done, letter-done, one-done, two-over-left, two-done}
 use Prim.Native.Nat.{ℕ, _<_}
 use borrow.Fn.Kinds.{In}
 use borrow.Fn.PlainCycle.{Measures, is, falls, and}
@@ -15,8 +13,8 @@ use Rattle.evaluation.proofs.evaluate.Reads as evaluate
 use Rattle.evaluation.proofs.evaluate.Kinds as evaluate-kinds
 use Rattle.evaluation.proofs.+evaluate.Lts-evaluate as evaluate-lts
 use Rattle.expression.proofs.node_at.Reads as node-at-reads
-use Rattle.evaluation.proofs.apply.Reads as apply-reads
-use Rattle.evaluation.proofs.combine.Reads as combine-reads
+use Rattle.values.proofs.apply.Reads as apply-reads
+use Rattle.values.proofs.combine.Reads as combine-reads
 use Rattle.evaluation.proofs.letter.Reads as letter-reads
 use Rattle.evaluation.proofs.point.Reads as point-reads
 use Rattle.evaluation.proofs.level_of.Reads as level-of-reads
@@ -52,17 +50,17 @@ pub +evaluate-spec : {M : Type 1} → statement M
     (evaluate-at t)
     evaluate.Post
     -- sub-rest
-    (λ c. omega (arith, planted-some (c .before .before .pre .1 .1 .planted)))
+    (λ c. planted-some (c .before .before .pre .1 .1 .planted))
     (λ c κs. search needs)
     (λ c. search needs)
     -- point-requires
     (λ c κs. let o = c .before .before .before .before .before .before in
-    (read-ticks (o .pre .1 .0) .1, omega (arith, o .pre .1 .3)))
+    (looks-ticks (o .pre .1 .0), omega (arith, o .pre .1 .3)))
     (λ c. search needs)
     (λ c κs. search needs)
     -- cast-letter
     (λ c. let m = c .before .before in
-    let o = m .before .before .before .before .before in
+    let o = c .before .before .before .before .before .before .before in
     omega (arith, node-is _ (m .before .before .node-at .ensures) (m .sign .given .1) (o .pre .1 .1 .planted) .1, few-channels (o .pre .1 .0)))
     -- letter-requires
     (λ c κs. let o = c .before .before .before .before .before .before .before .before in
@@ -70,104 +68,78 @@ pub +evaluate-spec : {M : Type 1} → statement M
     (λ c. search needs)
     -- evaluate-requires
     (λ c κs. let m = c .before .before in
-    let o = m .before .before .before .before .before in
+    let o = c .before .before .before .before .before .before .before in
     let s = node-is _ (m .before .before .node-at .ensures) (m .op .given .1) (o .pre .1 .1 .planted) in
-    (omega (arith, o .pre .0, planted-some (o .pre .1 .1 .planted)), (o .pre .1 .0, record { expression = s .0; planted = s .3 }, omega (arith, o .pre .1 .2), omega (arith, o .pre .1 .3, planted-some (o .pre .1 .1 .planted)))))
-    (λ c. search needs)
-    (λ c. search needs)
-    -- same-length
-    (λ c. c .before .before .before .evaluate .ensures .1 .same-length)
-    -- returns
-    (λ c. let m = c .before .before .before .before .before .before in
-    let o = m .before .before .before .before .before in
-    (λ e p. let s = node-is _ (m .before .before .node-at .ensures) (m .op .given .1) p in one-over (o .pre .1 .0) (s .0) (m .op .given .0 .0) (s .1) (rw (c .enum-told2 .given .1) at (c .before .before .before .evaluate .ensures .0 (s .0) (s .3))), kept-within (omega arith) (omega (arith, planted-some (o .pre .1 .1 .planted))) (c .before .before .before .evaluate .ensures .1)))
+    (rest-falls (planted-some (o .pre .1 .1 .planted)) (o .pre .0), (o .pre .1 .0, record { expression = s .0; planted = s .3 }, rest-few (o .pre .1 .2), room-left (planted-some (o .pre .1 .1 .planted)) _ (o .pre .1 .3))))
     -- apply-requires
     (λ c κs.
-    let the-evaluate = c .before .before .before .before .before .evaluate in
-    let m = c .before .before .before .before .before .before .before .before in
-    let o = m .before .before .before .before .before in
+    let the-evaluate = c .before .before .evaluate in
+    let m = c .before .before .before .before .before in
+    let o = c .before .before .before .before .before .before .before .before .before .before in
     let s = node-is _ (m .before .before .node-at .ensures) (m .op .given .1) (o .pre .1 .1 .planted) in
-    let v = rw (c .before .before .count .given .1) at (the-evaluate .ensures .0 (s .0) (s .3)) in
-    (v .holds .few, omega (arith, o .pre .1 .3, planted-some (o .pre .1 .1 .planted), the-evaluate .ensures .1 .same-length), operand-sound (o .pre .1 .0) (s .0) v, read-ticks (o .pre .1 .0) .1, operand-rounds (o .pre .1 .0) (s .0) v (s .3) (omega (arith, o .pre .1 .2)), s .2))
+    (came-only (o .pre .1 .0) (s .0) _ _ (s .3) (rest-few (o .pre .1 .2)) (roomy (the-evaluate .ensures .1) (room-three (planted-some (o .pre .1 .1 .planted)) _ (o .pre .1 .3))) (the-evaluate .result) (the-evaluate .ensures .0 (s .0) (s .3)), looks-ticks (o .pre .1 .0), s .2))
     (λ c. search needs)
     -- evaluate-requires-2
     (λ c κs. let m = c .before .before in
-    let o = m .before .before .before .before .before in
+    let o = c .before .before .before .before .before .before .before in
     let s = node-is _ (m .before .before .node-at .ensures) (m .op2 .given .1) (o .pre .1 .1 .planted) in
-    (omega (arith, o .pre .0, planted-some (o .pre .1 .1 .planted)), (o .pre .1 .0, record { expression = s .0; planted = s .3 }, omega (arith, o .pre .1 .2), omega (arith, o .pre .1 .3, planted-some (o .pre .1 .1 .planted)))))
+    (rest-falls (planted-some (o .pre .1 .1 .planted)) (o .pre .0), (o .pre .1 .0, record { expression = s .0; planted = s .3 }, rest-few (o .pre .1 .2), room-left (planted-some (o .pre .1 .1 .planted)) _ (o .pre .1 .3))))
     (λ c. search needs)
     (λ c. search needs)
-    -- same-length-2
+    -- same-length
     (λ c. c .before .before .before .evaluate2 .ensures .1 .same-length)
-    -- returns-2
+    -- returns
     (λ c. let m = c .before .before .before .before .before .before in
-    let o = m .before .before .before .before .before in
-    (λ e p. let s = node-is _ (m .before .before .node-at .ensures) (m .op2 .given .1) p in two-over-left (o .pre .1 .0) (s .0) (s .1) (m .op2 .given .0 .0) (s .2) (rw (c .enum-told3 .given .1) at (c .before .before .before .evaluate2 .ensures .0 (s .0) (s .3))), kept-within (omega arith) (omega (arith, planted-some (o .pre .1 .1 .planted))) (c .before .before .before .evaluate2 .ensures .1)))
+    let o = c .before .before .before .before .before .before .before .before .before .before .before in
+    (λ e p. let s = node-is _ (m .before .before .node-at .ensures) (m .op2 .given .1) p in two-over-left (o .pre .1 .0) (s .0) (s .1) (m .op2 .given .0 .0) (s .2) (rw (c .enum-told2 .given .1) at (c .before .before .before .evaluate2 .ensures .0 (s .0) (s .3))), kept-left (planted-some (o .pre .1 .1 .planted)) _ (c .before .before .before .evaluate2 .ensures .1)))
     -- add-evaluate
     (λ c. omega (arith, c .before .before .before .before .before .before .before .before .before .before .before .before .before .pre .1 .3))
     -- evaluate-requires-3
     (λ c κs. let m = c .before .before .before .before .before .before .before .before in
-    let o = m .before .before .before .before .before in
+    let o = c .before .before .before .before .before .before .before .before .before .before .before .before .before in
     let s = node-is _ (m .before .before .node-at .ensures) (m .op2 .given .1) (o .pre .1 .1 .planted) in
-    (omega (arith, o .pre .0, planted-some (o .pre .1 .1 .planted)), (o .pre .1 .0, record { expression = s .1; planted = s .4 }, omega (arith, o .pre .1 .2), omega (arith, o .pre .1 .3, planted-some (o .pre .1 .1 .planted), c .before .before .before .before .before .evaluate2 .ensures .1 .same-length))))
-    (λ c. search needs)
-    (λ c. search needs)
-    -- same-length-3
-    (λ c. c .before .before .before .evaluate3 .ensures .1 .same-length ∙ c .before .before .before .before .before .before .before .before .before .evaluate2 .ensures .1 .same-length)
-    -- returns-3
-    (λ c.
-    let the-evaluate2 = c .before .before .before .before .before .before .before .before .before .evaluate2 in
-    let m = c .before .before .before .before .before .before .before .before .before .before .before .before in
-    let o = m .before .before .before .before .before in
-    (λ e p. let s = node-is _ (m .before .before .node-at .ensures) (m .op2 .given .1) p in two-over-right (o .pre .1 .0) (s .0) (s .1) (m .op2 .given .0 .0) (s .2) (rw (c .before .before .before .before .before .before .n .given .1) at (the-evaluate2 .ensures .0 (s .0) (s .3))) (rw (c .enum-told4 .given .1) at (c .before .before .before .evaluate3 .ensures .0 (s .1) (s .4))), kept-trans (kept-within (omega arith) (omega (arith, planted-some (o .pre .1 .1 .planted))) (the-evaluate2 .ensures .1)) (kept-within (omega arith) (omega (arith, planted-some (o .pre .1 .1 .planted))) (c .before .before .before .evaluate3 .ensures .1))))
-    -- add-combine
-    (λ c.
-    let the-evaluate2 = c .before .before .before .before .before .before .before .before .before .before .before .evaluate2 in
-    let the-n = c .before .before .before .before .before .before .before .before .n in
-    let m = c .before .before .before .before .before .before .before .before .before .before .before .before .before .before in
-    let o = m .before .before .before .before .before in
-    let s = node-is _ (m .before .before .node-at .ensures) (m .op2 .given .1) (o .pre .1 .1 .planted) in
-    omega (arith, operand-rounds (o .pre .1 .0) (s .0) (rw (the-n .given .1) at (the-evaluate2 .ensures .0 (s .0) (s .3))) (s .3) (omega (arith, o .pre .1 .2)), operand-rounds (o .pre .1 .0) (s .1) (rw (c .before .before .m .given .1) at (c .before .before .before .before .before .evaluate3 .ensures .0 (s .1) (s .4))) (s .4) (omega (arith, o .pre .1 .2))))
+    (rest-falls (planted-some (o .pre .1 .1 .planted)) (o .pre .0), (o .pre .1 .0, record { expression = s .1; planted = s .4 }, rest-few (o .pre .1 .2), roomy (c .before .before .before .before .before .evaluate2 .ensures .1) (room-right (planted-some (o .pre .1 .1 .planted)) _ (o .pre .1 .3)))))
     -- combine-requires
     (λ c κs.
-    let the-evaluate2 = c .before .before .before .before .before .before .before .before .before .before .before .evaluate2 in
-    let the-n = c .before .before .before .before .before .before .before .before .n in
-    let the-evaluate3 = c .before .before .before .before .before .evaluate3 in
-    let m = c .before .before .before .before .before .before .before .before .before .before .before .before .before .before in
-    let o = m .before .before .before .before .before in
+    let the-evaluate2 = c .before .before .before .before .before .before .before .before .evaluate2 in
+    let the-n = c .before .before .before .before .before .n in
+    let the-evaluate3 = c .before .before .evaluate3 in
+    let m = c .before .before .before .before .before .before .before .before .before .before .before in
+    let o = c .before .before .before .before .before .before .before .before .before .before .before .before .before .before .before .before in
     let s = node-is _ (m .before .before .node-at .ensures) (m .op2 .given .1) (o .pre .1 .1 .planted) in
-    let v = rw (the-n .given .1) at (the-evaluate2 .ensures .0 (s .0) (s .3)) in
-    let w = rw (c .before .before .m .given .1) at (the-evaluate3 .ensures .0 (s .1) (s .4)) in
-    (v .holds .few, w .holds .few, omega (arith, o .pre .1 .3, planted-some (o .pre .1 .1 .planted), the-evaluate2 .ensures .1 .same-length, the-evaluate3 .ensures .1 .same-length), subst Sound (sym (listAt-kept (o .args .base) (the-n .given .0 .0) (the-evaluate3 .ensures .1) (inl (omega (arith, v .holds .few))))) (operand-sound (o .pre .1 .0) (s .0) v), operand-sound (o .pre .1 .0) (s .1) w))
-    -- same-length-4
+    let v = rw (the-n .given .1) at (the-evaluate2 .ensures .0 (s .0) (s .3)) in (
+      left-ready (o .pre .1 .0) (s .0) _ v (the-evaluate3 .ensures .1) (roomy (the-evaluate2 .ensures .1) (room-three (planted-some (o .pre .1 .1 .planted)) _ (o .pre .1 .3))),
+      operand-rounds (o .pre .1 .0) (s .0) v (s .3) (rest-few (o .pre .1 .2)),
+      came-right (o .pre .1 .0) (s .1) _ _ (s .4) (rest-few (o .pre .1 .2)) (roomy (the-evaluate3 .ensures .1) (roomy (the-evaluate2 .ensures .1) (room-second (planted-some (o .pre .1 .1 .planted)) _ (o .pre .1 .3)))) (the-evaluate3 .result) (the-evaluate3 .ensures .0 (s .1) (s .4)),
+    ))
+    -- same-length-2
     (λ c. c .before .point .ensures .1 .same-length)
+    -- returns-2
+    (λ c. let o = c .before .before .before .before .before .before .before .before in
+    (λ e p. point-done (o .pre .1 .0) (node-is _ (c .before .before .before .before .before .node-at .ensures) (c .before .before .before .enum-told .given .1) p) _ _ (c .before .point .result) (c .before .point .ensures .0), kept-one (planted-some (o .pre .1 .1 .planted)) _ (c .before .point .ensures .1)))
+    -- same-length-3
+    (λ c. c .before .letter .ensures .1 .same-length)
+    -- returns-3
+    (λ c. let m = c .before .before .before .before .before in
+    let o = c .before .before .before .before .before .before .before .before .before .before in
+    (λ e p. letter-done (o .pre .1 .0) (m .sign .given .0 .0) (m .sign .given .0 .1 .0) (node-is _ (m .before .before .node-at .ensures) (m .sign .given .1) p .0) _ _ (c .before .before .before .level-of .ensures) (c .before .letter .result) (c .before .letter .ensures .0), kept-one (planted-some (o .pre .1 .1 .planted)) _ (c .before .letter .ensures .1)))
+    -- same-length-4
+    (λ c. c .before .apply .ensures .1 .same-length ∙ c .before .before .before .before .evaluate .ensures .1 .same-length)
     -- returns-4
     (λ c.
-    let start = c .before .before .before .before .before .before .before .before in
-    (λ e p. point-done (start .pre .1 .0) (node-is _ (c .before .before .before .before .before .node-at .ensures) (c .before .before .before .enum-told .given .1) p) _ _ (c .before .point .result) (c .before .point .ensures .0), kept-within (omega arith) (omega arith) (c .before .point .ensures .1)))
+    let the-evaluate = c .before .before .before .before .evaluate in
+    let m = c .before .before .before .before .before .before .before in
+    let o = c .before .before .before .before .before .before .before .before .before .before .before .before in
+    (λ e p. let s = node-is _ (m .before .before .node-at .ensures) (m .op .given .1) p in one-done (o .pre .1 .0) (s .0) (m .op .given .0 .0) (s .1) _ _ _ (the-evaluate .result) (c .before .apply .result) (the-evaluate .ensures .0 (s .0) (s .3)) (c .before .apply .ensures .0), kept-trans (kept-left (planted-some (o .pre .1 .1 .planted)) _ (the-evaluate .ensures .1)) (kept-three (planted-some (o .pre .1 .1 .planted)) _ (c .before .apply .ensures .1))))
     -- same-length-5
-    (λ c. c .before .letter .ensures .1 .same-length)
+    (λ c. c .before .combine .ensures .1 .same-length ∙ c .before .before .before .before .evaluate3 .ensures .1 .same-length ∙ c .before .before .before .before .before .before .before .before .before .before .evaluate2 .ensures .1 .same-length)
     -- returns-5
-    (λ c. let m = c .before .before .before .before .before in
-    (λ e p. letter-done (m .before .before .before .before .before .pre .1 .0) (m .sign .given .0 .0) (m .sign .given .0 .1 .0) (node-is _ (m .before .before .node-at .ensures) (m .sign .given .1) p .0) _ _ (c .before .before .before .level-of .ensures) (c .before .letter .result) (c .before .letter .ensures .0), kept-within (omega arith) (omega arith) (c .before .letter .ensures .1)))
-    -- same-length-6
-    (λ c. c .before .apply .ensures .1 .same-length ∙ c .before .before .before .before .before .before .before .evaluate .ensures .1 .same-length)
-    -- returns-6
     (λ c.
-    let the-evaluate = c .before .before .before .before .before .before .before .evaluate in
-    let m = c .before .before .before .before .before .before .before .before .before .before in
-    let o = m .before .before .before .before .before in
-    (λ e p. let s = node-is _ (m .before .before .node-at .ensures) (m .op .given .1) p in one-done (o .pre .1 .0) (s .0) (m .op .given .0 .0) (s .1) _ (c .before .apply .result) (rw (c .before .before .before .before .count .given .1) at (the-evaluate .ensures .0 (s .0) (s .3))) (c .before .apply .ensures .0), kept-trans (kept-within (omega arith) (omega (arith, planted-some (o .pre .1 .1 .planted))) (the-evaluate .ensures .1)) (kept-within (omega arith) (omega (arith, planted-some (o .pre .1 .1 .planted))) (c .before .apply .ensures .1))))
-    -- same-length-7
-    (λ c. c .before .combine .ensures .1 .same-length ∙ c .before .before .before .before .before .before .before .evaluate3 .ensures .1 .same-length ∙ c .before .before .before .before .before .before .before .before .before .before .before .before .before .evaluate2 .ensures .1 .same-length)
-    -- returns-7
-    (λ c.
-    let the-evaluate2 = c .before .before .before .before .before .before .before .before .before .before .before .before .before .evaluate2 in
-    let the-n = c .before .before .before .before .before .before .before .before .before .before .n in
-    let the-evaluate3 = c .before .before .before .before .before .before .before .evaluate3 in
-    let m = c .before .before .before .before .before .before .before .before .before .before .before .before .before .before .before .before in
-    let o = m .before .before .before .before .before in (
-      λ e p. let s = node-is _ (m .before .before .node-at .ensures) (m .op2 .given .1) p in
-          let v = rw (the-n .given .1) at (the-evaluate2 .ensures .0 (s .0) (s .3)) in two-done (o .pre .1 .0) (s .0) (s .1) (m .op2 .given .0 .0) (s .2) _ (c .before .combine .result) v (listAt-kept (o .args .base) (the-n .given .0 .0) (the-evaluate3 .ensures .1) (inl (omega (arith, v .holds .few)))) (rw (c .before .before .before .before .m .given .1) at (the-evaluate3 .ensures .0 (s .1) (s .4))) (c .before .combine .ensures .0),
-      kept-trans (kept-within (omega arith) (omega (arith, planted-some (o .pre .1 .1 .planted))) (the-evaluate2 .ensures .1)) (kept-trans (kept-within (omega arith) (omega (arith, planted-some (o .pre .1 .1 .planted))) (the-evaluate3 .ensures .1)) (kept-within (omega arith) (omega (arith, planted-some (o .pre .1 .1 .planted))) (c .before .combine .ensures .1))),
+    let the-evaluate2 = c .before .before .before .before .before .before .before .before .before .before .evaluate2 in
+    let the-n = c .before .before .before .before .before .before .before .n in
+    let the-evaluate3 = c .before .before .before .before .evaluate3 in
+    let m = c .before .before .before .before .before .before .before .before .before .before .before .before .before in
+    let o = c .before .before .before .before .before .before .before .before .before .before .before .before .before .before .before .before .before .before in (
+      λ e p. let s = node-is _ (m .before .before .node-at .ensures) (m .op2 .given .1) p in two-done (o .pre .1 .0) (s .0) (s .1) (m .op2 .given .0 .0) (s .2) _ (rw (the-n .given .1) at (the-evaluate2 .ensures .0 (s .0) (s .3))) (the-evaluate3 .ensures .1) _ (the-evaluate3 .result) (c .before .combine .result) (the-evaluate3 .ensures .0 (s .1) (s .4)) (c .before .combine .ensures .0),
+      kept-trans (kept-left (planted-some (o .pre .1 .1 .planted)) _ (the-evaluate2 .ensures .1)) (kept-trans (kept-right (planted-some (o .pre .1 .1 .planted)) _ (the-evaluate3 .ensures .1)) (kept-three (planted-some (o .pre .1 .1 .planted)) _ (c .before .combine .ensures .1))),
     ))

@@ -1,7 +1,7 @@
--- `put` meets its contract: the three ways of an insertion. Assumes nothing.
+-- `put` meets its contract: the three ways of an insertion.
 use borrow.Author.Needs.{needs}
 use Rattle.list.specs.declared.Inserted.the-variants.{Away, Placed, Overflow}
-use Rattle.evaluation.proofs.Standings.{put-built, put-kept}
+use Rattle.evaluation.proofs.Puts.{put-built, put-kept}
 use Rattle.evaluation.proofs.put.Statement.{statement}
 use Rattle.evaluation.proofs.put.Tie as tie
 

@@ -1,4 +1,4 @@
--- `zikpasho_find` meets its contract: that of `finder::find`, in a number and two counts. Assumes nothing.
+-- The promises of `finder::find`, in a number and two counts; or no call.
 use mathlib.Core.Path.{refl, ap, _∙_}
 use mathlib.Core.List.{_∷_}
 use native.Mathlib.Omega.{arith}

@@ -1,4 +1,4 @@
--- `zikpasho_front` meets its contract. Assumes nothing.
+-- The length of what `finder::front` gives.
 use mathlib.Core.Path.{ap}
 use lib.ListN.{length}
 use borrow.Author.Needs.{needs}

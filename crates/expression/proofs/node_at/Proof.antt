@@ -1,4 +1,4 @@
--- `node_at` meets its contract. Assumes nothing.
+-- `node_at` meets its contract.
 use mathlib.Core.Path.{_∙_}
 use Rattle.expression.specs.Stored.{nodeAt}
 use borrow.Author.Needs.{needs}

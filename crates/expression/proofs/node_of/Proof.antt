@@ -1,6 +1,4 @@
--- `node_of` meets its contract. Assumes nothing.
-use borrow.Author.Tests.{ne-eqb}
-use Rattle.expression.specs.Stored.{decoded}
+-- `node_of` meets its contract.
 use borrow.Author.Tests.{ne-eqb}
 use Rattle.expression.specs.Stored.{decoded}
 use Rattle.expression.proofs.node_of.Statement.{statement}

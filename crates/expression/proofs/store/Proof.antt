@@ -1,4 +1,4 @@
--- `store` meets its contract. Assumes nothing.
+-- `store` meets its contract.
 use native.Mathlib.Omega.{arith}
 use lib.ListN.{length-set}
 use Rattle.expression.proofs.Nodes.{stores}

@@ -1,4 +1,4 @@
--- `word` meets its contract. Assumes nothing.
+-- `word` meets its contract.
 use mathlib.Core.Path.{sym}
 use lib.ListN.{List·getD-eq-default}
 use borrow.Author.Needs.{needs}

@@ -1,4 +1,4 @@
--- `words_of` meets its contract. Assumes nothing.
+-- `words_of` meets its contract.
 use mathlib.Core.Path.{sym, ap, _∙_}
 use Rattle.expression.specs.declared.Upper.{Upper}
 use Rattle.expression.specs.Expression.{Sign, Join, Unary, Band}

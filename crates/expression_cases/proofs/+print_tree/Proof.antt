@@ -1,4 +1,4 @@
--- `print_tree` ends, since the depth that is left falls. Assumes nothing.
+-- `print_tree` ends, since the depth that is left falls.
 use borrow.Author.Needs.{needs}
 use Prim.Native.Nat.{ℕ, _<_}
 use borrow.Fn.Kinds.{In}

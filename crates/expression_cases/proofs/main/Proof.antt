@@ -1,4 +1,4 @@
--- `main` is safe and ends: the line that is read starts at `start`, and the bytes before `at` are passed. Assumes nothing.
+-- `main` is safe and ends: the line that is read starts at `start`, and the bytes before `at` are passed.
 use Prim.Native.Nat.{_≤_, _-_}
 use mathlib.Core.Logic.{⊎-elim}
 use native.Mathlib.Omega.{arith}

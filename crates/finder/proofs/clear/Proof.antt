@@ -1,19 +1,19 @@
--- `clear` meets its contract. The loop keeps that the words passed are zero and the others as they were. Assumes nothing.
+-- `clear` meets its contract. The loop keeps that the words passed are zero and the others as they were.
 use Prim.Native.Nat.{_≤_, _-_}
 use mathlib.Core.Path.{_≡_, refl, _∙_}
 use native.Mathlib.Omega.{arith}
 use lib.ListN.{length, length-set, replicate}
 use lib.IntN.{pos}
-use Rattle.finder.specs.Outcome.{fronted}
+use Rattle.finder.specs.Outcome.{room, fronted}
 use Rattle.finder.proofs.Buffers.{fronted-none, zeroed-more, zeroed-all}
 use Rattle.finder.proofs.clear.Statement.{statement}
 use Rattle.finder.proofs.clear.Tie as tie
 
 abbrev Inv-loop : tie.InvT-loop
-Inv-loop work₀ i₀ work i = (i ≤ 16_384) × (length work ≡ length work₀) × (work ≡ fronted (replicate i (pos 0)) work₀)
+Inv-loop work₀ i₀ work i = (i ≤ room) × (length work ≡ length work₀) × (work ≡ fronted (replicate i (pos 0)) work₀)
 
 abbrev μ-loop : tie.MeasureT-loop
-μ-loop work₀ i₀ work i = 16_384 - i
+μ-loop work₀ i₀ work i = room - i
 
 loop-holds : tie.Need-loop-holds Inv-loop μ-loop
 loop-holds c = (omega arith, refl, fronted-none _)

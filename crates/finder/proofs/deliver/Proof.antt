@@ -1,71 +1,42 @@
--- `deliver` meets its contract. The loop keeps that the words passed are those of `work` and the others as they were. Assumes nothing.
-use Prim.Native.Nat.{ℕ, _≤_, _-_, _*_}
-use mathlib.Core.List.{List}
-use mathlib.Core.Path.{_≡_, refl, sym, ap, _∙_}
+-- `deliver` meets its contract: a list is delivered exactly where its words have room.
+use Prim.Native.Nat.{_*_, _≤_, _<_}
 use native.Mathlib.Omega.{arith}
-use lib.ListN.{length, length-set, take}
-use lib.IntN.{ℤ}
-use mir.ValLaws.{toZ-ofZ}
-use mir.Syntax.{w32}
-use Rattle.finder.specs.Outcome.{fronted}
-use Rattle.finder.proofs.Buffers.{fronted-none, copied-more, words-at}
+use lib.ListN.{length}
+use denote.Ref.{now}
+use borrow.Author.Tests.{le-leb, lt-leb}
+use borrow.Author.Needs.{needs}
+use Rattle.words.specs.Words.{zone-words}
 use Rattle.finder.proofs.deliver.Statement.{statement}
 use Rattle.finder.proofs.deliver.Tie as tie
 
-abbrev Inv-loop : tie.InvT-loop
-Inv-loop work answer₀ count n i₀ answer i = (i ≤ count * 6) × (length answer ≡ length answer₀) × (answer ≡ fronted (take i work) answer₀)
+returns-2 : tie.Need-returns-2
+returns-2 c =
+    let start = c .before .before .before .before in
+    let listed = c .before .before .evaluated .given in
+    let short : length (now (start .args .answer)) < listed .0 .0 * zone-words = omega (arith, c .if1 .taken) in
+    (rw (listed .1, lt-leb _ _ short), rw (listed .1, lt-leb _ _ short))
 
-abbrev μ-loop : tie.MeasureT-loop
-μ-loop work answer₀ count n i₀ answer i = count * 6 - i
+fill-requires : tie.Need-fill-requires
+fill-requires c κs =
+    let start = c .before .before .before .before .before in
+    let listed = c .before .before .before .evaluated .given in
+    (rw (listed .1) at (start .pre), omega (arith, c .before .if1 .left))
 
-mul-n : tie.Need-mul-n Inv-loop μ-loop
-mul-n c = omega arith
-
-loop-holds : tie.Need-loop-holds Inv-loop μ-loop
-loop-holds c = (omega arith, refl, fronted-none _)
-
-mul-answer : tie.Need-mul-answer Inv-loop μ-loop
-mul-answer c = omega arith
-
-shared-slice-copy-out-answer : tie.Need-shared-slice-copy-out-answer Inv-loop μ-loop
-shared-slice-copy-out-answer c = omega arith
-
-mul-t10 : tie.Need-mul-t10 Inv-loop μ-loop
-mul-t10 c = omega arith
-
-slice-set-from-answer : tie.Need-slice-set-from-answer Inv-loop μ-loop
-slice-set-from-answer c = omega (arith, c .before .before .loop .inv .1)
-
-add-i : tie.Need-add-i Inv-loop μ-loop
-add-i c = omega arith
-
-loop-less : tie.Need-loop-less Inv-loop μ-loop
-loop-less c = omega arith
-
-loop-again : tie.Need-loop-again Inv-loop μ-loop
-loop-again c = (omega arith, simp length-set (c .before .before .loop .inv .1), rw (toZ-ofZ w32 _ (record { sfits = c .answer .given })) (rw (c .before .before .loop .inv .2) (copied-more (c .before .before .before .args .work .now) (c .before .before .before .args .answer .now) (c .before .before .loop .i) (omega arith) (omega arith))))
-
-same-length : tie.Need-same-length Inv-loop μ-loop
-same-length c = c .before .loop .inv .1
-
-returns : tie.Need-returns Inv-loop μ-loop
-returns c = let e : c .before .loop .i ≡ c .before .before .args .count * 6 = omega arith in
-    c .before .loop .inv .2 ∙ ap (λ (l : List ℤ). fronted l (c .before .before .args .answer .now)) (ap (λ (k : ℕ). take k (c .before .before .args .work .now)) e ∙ sym (words-at (c .before .before .args .work .now) 0 (c .before .before .args .count) (omega arith)))
+returns-3 : tie.Need-returns-3
+returns-3 c =
+    let start = c .before .before .before .before .before .before .before in
+    let listed = c .before .before .before .before .before .evaluated .given in
+    let fits : listed .0 .0 * zone-words ≤ length (now (start .args .answer)) = omega (arith, c .before .before .before .if1 .left) in
+    (rw (listed .1, le-leb _ _ fits), rw (listed .1, le-leb _ _ fits) (c .before .fill .ensures))
 
 pub deliver-spec : {M : Type 1} → statement M
 deliver-spec =
     tie.close
     (tie.spec
-    Inv-loop
-    μ-loop
-    mul-n
-    loop-holds
-    mul-answer
-    shared-slice-copy-out-answer
-    mul-t10
-    slice-set-from-answer
-    add-i
-    loop-less
-    loop-again
-    same-length
-    returns)
+    (λ c. search needs)
+    (λ c. search needs)
+    (λ c. search needs)
+    returns-2
+    fill-requires
+    (λ c. search needs)
+    returns-3)

@@ -1,51 +1,33 @@
--- `work_out` meets its contract: what the evaluator wrote is among the words that are cleared. Assumes nothing.
-use mathlib.Core.Path.{refl, ap, _∙_}
-use mathlib.Core.List.{List}
+-- `work_out` meets its contract: the list that the evaluator left in the work buffer is delivered, and what it wrote is cleared.
 use native.Mathlib.Omega.{arith}
-use denote.Ref.{now}
-use Rattle.zone.specs.declared.Zone.{Zone}
-use Rattle.finder.specs.Outcome.{words, fronted}
-use Rattle.finder.proofs.Buffers.{cleared-kept}
 use borrow.Author.Needs.{needs}
+use Rattle.evaluation.proofs.Windows.{looks-whole}
+use Rattle.finder.proofs.Finding.{in-front, worked}
 use Rattle.finder.proofs.work_out.Statement.{statement}
 use Rattle.finder.proofs.work_out.Tie as tie
 
-returns-2 : tie.Need-returns-2
-returns-2 c = λ e p. (
-  omega (arith, c .before .before .before .before .before .before .before .before .if1 .left),
-  rw (c .before .before .before .enum-told .given .1) at (c .before .before .before .before .before .before .evaluate .ensures .0 e p),
-  record { answer-kept = refl; work-cleared = c .before .clear .ensures ∙ cleared-kept (c .before .before .before .before .before .before .evaluate .ensures .1) (omega arith) },
-)
-
-returns-3 : tie.Need-returns-3
-returns-3 c = λ e p. let s = rw (c .before .before .before .before .before .count .given .1) at (c .before .before .before .before .before .before .before .before .evaluate .ensures .0 e p) in
-    record {
-      enough = omega (arith, c .before .before .before .before .before .before .before .before .before .before .if1 .left);
-      list = s .list;
-      rounds = c .before .before .before .before .before .count .given .0 .1 .0;
-      means = s .means;
-      short = omega (arith, s .holds .count, c .before .before .before .if2 .taken);
-      buffers = record { answer-kept = refl; work-cleared = c .before .clear2 .ensures ∙ cleared-kept (c .before .before .before .before .before .before .before .before .evaluate .ensures .1) (omega arith) };
-    }
+evaluate-requires : tie.Need-evaluate-requires
+evaluate-requires c κs =
+    let start = c .before .before .before .before in
+    (looks-whole (start .pre .0), start .pre .1, omega arith, omega (arith, c .before .if1 .left))
 
 deliver-requires : tie.Need-deliver-requires
 deliver-requires c κs =
-    let start = c .before .before .before .before .before .before .before .before .before .before .before .before in
-    let the-if1 = c .before .before .before .before .before .before .before .before .before .if1 in
-    let the-evaluate = c .before .before .before .before .before .before .before .evaluate in
-    let r = start .pre .1 in let s = rw (c .before .before .before .before .count .given .1) at (the-evaluate .ensures .0 (r .expression) (r .planted)) in
-    (omega (arith, s .holds .few, the-evaluate .ensures .1 .same-length, the-if1 .left), omega (arith, c .before .before .if2 .left))
+    let start = c .before .before .before .before .before .before .before .before in
+    let the-evaluate = c .before .before .before .evaluate in
+    let root = start .pre .1 in
+    in-front _ (the-evaluate .result) _ (omega (arith, the-evaluate .ensures .1 .same-length, c .before .before .before .before .before .if1 .left))
+    (the-evaluate .ensures .0 (root .expression) (root .planted))
 
-returns-4 : tie.Need-returns-4
-returns-4 c = λ e p. let s = rw (c .before .before .before .before .before .before .before .before .before .count .given .1) at (c .before .before .before .before .before .before .before .before .before .before .before .before .evaluate .ensures .0 e p) in
+returns-2 : tie.Need-returns-2
+returns-2 c =
+    let the-clear = c .before .clear in
+    let the-deliver = c .before .before .before .before .deliver in
+    let the-evaluate = c .before .before .before .before .before .before .before .before .evaluate in
+    let enough = c .before .before .before .before .before .before .before .before .before .before .if1 .left in
     record {
-      enough = omega (arith, c .before .before .before .before .before .before .before .before .before .before .before .before .before .before .if1 .left);
-      list = s .list;
-      means = s .means;
-      count = s .holds .count;
-      fits = omega (arith, s .holds .count, c .before .before .before .before .before .before .before .if2 .left);
-      answer-filled = c .before .before .before .before .deliver .ensures ∙ ap (λ (L : List Zone). fronted (words L) (now (c .before .before .before .before .before .before .before .before .before .before .before .before .before .before .before .before .before .args .answer))) (s .holds .zones);
-      work-cleared = c .before .clear3 .ensures ∙ cleared-kept (c .before .before .before .before .before .before .before .before .before .before .before .before .evaluate .ensures .1) (omega arith);
+      each = λ e p. worked _ (the-evaluate .result) _ (omega (arith, enough)) (omega arith) (the-evaluate .ensures .0 e p) (the-evaluate .ensures .1)
+          (the-deliver .ensures .0) (the-deliver .ensures .1) (the-clear .ensures);
     }
 
 pub work-out-spec : {M : Type 1} → statement M
@@ -53,17 +35,9 @@ work-out-spec =
     tie.close
     (tie.spec
     (λ c. search needs)
-    (λ c κs. search needs)
-    (λ c. search needs)
-    (λ c. search needs)
-    (λ c κs. search needs)
-    (λ c. search needs)
-    returns-2
-    (λ c κs. search needs)
-    (λ c. search needs)
-    returns-3
+    evaluate-requires
     deliver-requires
     (λ c κs. search needs)
     (λ c. search needs)
     (λ c. search needs)
-    returns-4)
+    returns-2)

@@ -1,4 +1,4 @@
--- `call_on` is safe and ends. Assumes nothing.
+-- `call_on` is safe and ends.
 use mathlib.Core.Path.{sym}
 use native.Mathlib.Omega.{arith}
 use lib.Seq.{length-take-le}

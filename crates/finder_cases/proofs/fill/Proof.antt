@@ -1,4 +1,4 @@
--- `fill` is safe and ends. Assumes nothing.
+-- `fill` is safe and ends.
 use Prim.Native.Nat.{_≤_, _-_}
 use mathlib.Core.Path.{_≡_}
 use native.Mathlib.Omega.{arith}

@@ -1,8 +1,6 @@
--- `is_cleared` is safe and ends. Assumes nothing.
+-- `is_cleared` is safe and ends.
 use borrow.Author.Needs.{needs}
 use Prim.Native.Nat.{_≤_, _-_}
-use mathlib.Core.Path.{_≡_}
-use lib.ListN.{length}
 use Rattle.finder_cases.proofs.is_cleared.Statement.{statement}
 use Rattle.finder_cases.proofs.is_cleared.Tie as tie
 

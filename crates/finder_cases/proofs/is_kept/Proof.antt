@@ -1,7 +1,6 @@
--- `is_kept` is safe and ends. Assumes nothing.
+-- `is_kept` is safe and ends.
 use borrow.Author.Needs.{needs}
-use Prim.Native.Nat.{_≤_, _-_}
-use mathlib.Core.Path.{_≡_}
+use Prim.Native.Nat.{_-_}
 use lib.ListN.{length}
 use Rattle.finder_cases.proofs.is_kept.Statement.{statement}
 use Rattle.finder_cases.proofs.is_kept.Tie as tie

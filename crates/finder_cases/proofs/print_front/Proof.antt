@@ -1,4 +1,4 @@
--- `print_front` is safe and ends. Assumes nothing.
+-- `print_front` is safe and ends.
 use mathlib.Core.Path.{sym}
 use native.Mathlib.Omega.{arith}
 use lib.Seq.{length-take-le}

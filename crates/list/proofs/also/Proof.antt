@@ -1,5 +1,5 @@
--- `also` meets its contract, case by case. Assumes nothing.
-use Rattle.list.proofs.Scan.{still-held, still-clear, first-inside}
+-- `also` meets its contract, case by case.
+use Rattle.list.proofs.Scan.{still-held, still-yields, first-inside}
 use borrow.Author.Needs.{needs}
 use Rattle.list.proofs.also.Statement.{statement}
 use Rattle.list.proofs.also.Tie as tie
@@ -11,10 +11,10 @@ returns-2 : tie.Need-returns-2
 returns-2 c = λ z ws base l e f. first-inside z ws base _ e f (rw (c .enum-told2 .given .1) at l)
 
 returns-3 : tie.Need-returns-3
-returns-3 c = λ z ws base l e f. still-clear z ws base _ e ((rw (c .before .seen .given .1) at l) .clear)
+returns-3 c = λ z ws base l e f. still-yields z ws base _ e ((rw (c .before .seen .given .1) at l) .yields)
 
 returns-4 : tie.Need-returns-4
-returns-4 c = λ z ws base l e f. still-clear z ws base _ e (rw (c .before .seen2 .given .1) at l)
+returns-4 c = λ z ws base l e f. still-yields z ws base _ e (rw (c .before .seen2 .given .1) at l)
 
 pub also-spec : {M : Type 1} → statement M
 also-spec =

@@ -3,7 +3,7 @@ use Rattle.list.proofs.Slots.{kept-refl, listAt-copied}
 use Rattle.list.specs.Slots.{listAt}
 use native.Mathlib.Omega.{arith}
 use Prim.Native.Nat.{ℕ}
-use mathlib.Core.Logic.{_⊎_, ⊎-elim}
+use mathlib.Core.Logic.{⊎-elim}
 use mathlib.Core.Path.{sym, ap}
 use borrow.Author.Needs.{needs}
 use Rattle.list.proofs.bring.Statement.{statement}

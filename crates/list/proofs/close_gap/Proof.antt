@@ -2,7 +2,7 @@ use Prim.Native.Nat.{_+_, _-_, _≤_}
 use mathlib.Core.Path.{_≡_}
 use native.Mathlib.Omega.{arith}
 use Rattle.signed.proofs.Machine.{back}
-use Rattle.list.specs.Steps.{Copied}
+use Rattle.list.specs.Slots.{Copied}
 use Rattle.list.proofs.Slots.{copied-none, copied-more}
 use Rattle.list.proofs.close_gap.Statement.{statement}
 use Rattle.list.proofs.close_gap.Tie as tie

@@ -1,7 +1,7 @@
 use Prim.Native.Nat.{_≤_, _-_, _+_, _*_}
 use mathlib.Core.Path.{_≡_}
 use native.Mathlib.Omega.{arith}
-use Rattle.list.specs.Steps.{Copied}
+use Rattle.list.specs.Slots.{Copied}
 use Rattle.list.proofs.Slots.{copied-none, copied-on, copied-zone}
 use Rattle.list.proofs.copy_zones.Statement.{statement}
 use Rattle.list.proofs.copy_zones.Tie as tie

@@ -1,4 +1,4 @@
--- `insert` meets its contract, which is that of the six words it writes. Assumes nothing.
+-- `insert` meets its contract, which is that of the six words it writes.
 use native.Mathlib.Omega.{arith}
 use Rattle.list.proofs.Puts.{held}
 use borrow.Author.Needs.{needs}

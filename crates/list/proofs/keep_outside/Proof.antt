@@ -1,4 +1,4 @@
--- `keep_outside` meets its contract. Assumes nothing.
+-- `keep_outside` meets its contract.
 use native.Mathlib.Omega.{arith}
 use mathlib.Core.Path.{refl}
 use Rattle.list.proofs.Slots.{copied-there, copied-zone}

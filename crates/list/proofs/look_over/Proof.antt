@@ -1,10 +1,10 @@
--- `look_over` meets its contract: it holds at each place of the zones gone over so far. Assumes nothing.
+-- `look_over` meets its contract: it holds at each place of the zones gone over so far.
 use mathlib.Core.Path.{_≡_, sym, _∙_}
 use mathlib.Core.Logic.{⊎-elim}
 use Prim.Native.Nat.{_-_, _≤_}
 use native.Mathlib.Omega.{arith}
 use Rattle.words.specs.Words.{zoneAt}
-use Rattle.zone.proofs.Laws.{nesting-inside, nesting-around}
+use Rattle.words.proofs.Nestings.{nesting-inside, nesting-around}
 use Rattle.list.specs.Steps.{LookAs}
 use Rattle.list.proofs.Scan.{none-seen, held-here, look-on}
 use borrow.Author.Needs.{needs}
@@ -30,7 +30,7 @@ nested-requires : tie.Need-nested-requires Inv-loop μ-loop
 nested-requires c κs = (omega arith, omega arith)
 
 returns : tie.Need-returns Inv-loop μ-loop
-returns c = held-here _ _ _ _ _ (c .before .before .before .before .loop-test .taken) (nesting-inside _ _ (sym (c .enum-told .given .1) ∙ c .before .before .nested .ensures))
+returns c = held-here _ _ _ _ _ (c .before .before .before .before .loop-test .taken) (nesting-inside _ _ (sym (c .enum-told .given .1) ∙ c .before .before .nested .ensures .0))
 
 add-i : tie.Need-add-i Inv-loop μ-loop
 add-i c = omega arith
@@ -50,8 +50,8 @@ loop-again c =
     let sofar = turn .loop .inv .1 in (
       omega arith,
       ⊎-elim
-          (λ w. let e = sym (w .1 .given .1) ∙ c .before .nested .ensures in let f = nesting-inside _ _ e in rw (w .3) (w .2 .ensures z ws base sofar f (nesting-around _ _ e f)))
-          (λ w. let e = sym (w .1 .given .1) ∙ c .before .nested .ensures in let f = nesting-inside _ _ e in rw (w .2) (look-on z ws base i seen f (nesting-around _ _ e f) sofar))
+          (λ w. let e = sym (w .1 .given .1) ∙ c .before .nested .ensures .0 in let f = nesting-inside _ _ e in rw (w .3) (w .2 .ensures z ws base sofar f (nesting-around _ _ e f)))
+          (λ w. let e = sym (w .1 .given .1) ∙ c .before .nested .ensures .0 in let f = nesting-inside _ _ e in rw (w .2) (look-on z ws base i seen f (nesting-around _ _ e f) sofar))
           (c .match .came),
     )
 

@@ -1,4 +1,3 @@
-use native.Mathlib.Omega.{arith}
 use Rattle.operators.proofs.Listings.{listing}
 use Rattle.list.specs.Slots.{listAt}
 use borrow.Author.Needs.{needs}
@@ -6,7 +5,7 @@ use Rattle.operators.proofs.all_pairs.Statement.{statement}
 use Rattle.operators.proofs.all_pairs.Tie as tie
 
 each-pair-requires : tie.Need-each-pair-requires
-each-pair-requires c κs = (c .before .pre .0, c .before .pre .1, record { few = omega arith; room = c .before .pre .2 }, c .before .pre .3, c .before .pre .4)
+each-pair-requires c κs = c .before .pre
 
 returns : tie.Need-returns
 unfolding listAt

@@ -1,6 +1,6 @@
-use Rattle.list.proofs.Slots.{list-there, still-source}
+use Rattle.list.proofs.Slots.{list-there, still-source, still-empty}
 use Rattle.operators.proofs.Listings.{band-kept, band-alone, sound-band}
-use Rattle.list.proofs.Copies.{kept-both, kept-neither}
+use Rattle.list.proofs.Copies.{kept-both, kept-neither, disjoint-swap}
 use Rattle.list.proofs.Puts.{holds-same}
 use Rattle.list.specs.Slots.{listAt, Sound}
 use Rattle.operators.specs.Operators.{banded}
@@ -14,33 +14,40 @@ use Rattle.operators.proofs.band.Tie as tie
 
 returns : tie.Need-returns
 unfolding banded listAt
-returns c = (rw (c .enum-told .given .1) (record { list = []; value = refl; holds = holds-same _ _ 0 (omega arith) }), kept-neither _ _ _)
+returns c = (rw (c .enum-told .given .1) (record { list = []; value = refl; holds = holds-same _ _ 0 (omega arith) }), (kept-neither _ _ _, omega arith))
 
 write-zone-requires : tie.Need-write-zone-requires
-write-zone-requires c κs = (omega arith, ranged (rw (c .before .before .limits .given .1) at (c .before .before .before .before .pre .6)))
+write-zone-requires c κs = (omega arith, ranged (rw (c .before .before .limits .given .1) at (c .before .before .before .before .pre .1)))
 
 all-pairs-requires : tie.Need-all-pairs-requires
 all-pairs-requires c κs =
-    let start = c .before .before .before .before .before .before .before in
-    let z = c .before .before .before .before .before .limits .given .0 .0 in
-    let f = band-kept z _ _ (start .pre .1) (c .before .before .write-zone .ensures) in
-    let alone = band-alone z _ _ (start .pre .1) (c .before .before .write-zone .ensures) in (
-      still-source _ _ (start .pre .0) f (start .pre .5),
-      record { few = omega arith; room = omega (arith, f .same-length, start .pre .1); sound = subst Sound (sym alone) (sound-band (rw (c .before .before .before .before .before .limits .given .1) at (start .pre .6))) },
-      omega (arith, f .same-length, start .pre .2),
-      start .pre .3,
-      start .pre .4,
-    )
+    let work = c .before .before .before .before .before .before .before .pre .0 in
+    let the-limits = c .before .before .before .before .before .limits in
+    let f = band-kept (the-limits .given .0 .0) _ _ (work .scratch-free) (c .before .before .write-zone .ensures) in
+    let alone = band-alone (the-limits .given .0 .0) _ _ (work .scratch-free) (c .before .before .write-zone .ensures) in
+    let sound = subst Sound (sym alone) (sound-band (rw (the-limits .given .1) at (c .before .before .before .before .before .before .before .pre .1))) in
+    record {
+      lefts = record { list = still-source _ _ (work .list) f (work .scratch-apart); slot = still-empty f (work .target-free); apart = work .target-apart };
+      rights =
+          record {
+            list = record { few = omega arith; room = omega (arith, f .same-length, work .scratch-free); sound = sound };
+            slot = still-empty f (work .target-free);
+            apart = disjoint-swap (work .both-apart);
+          };
+    }
 
 returns-2 : tie.Need-returns-2
 unfolding banded
 returns-2 c =
     let start = c .before .before .before .before .before .before .before .before .before in
-    let z = c .before .before .before .before .before .before .before .limits .given .0 .0 in
-    let pre = start .pre in
-    let f = band-kept z _ _ (pre .1) (c .before .before .before .before .write-zone .ensures) in
-    let same = list-there (start .args .source) (start .args .n) f (pre .5) (pre .0 .few) in
-    (rw (c .before .before .before .before .before .before .before .limits .given .1) (rw (same, band-alone z _ _ (pre .1) (c .before .before .before .before .write-zone .ensures)) at (c .before .all-pairs .ensures .0)), kept-both f (c .before .all-pairs .ensures .1))
+    let work = start .pre .0 in
+    let the-limits = c .before .before .before .before .before .before .before .limits in
+    let the-write-zone = c .before .before .before .before .write-zone in
+    let f = band-kept (the-limits .given .0 .0) _ _ (work .scratch-free) (the-write-zone .ensures) in
+    let same = list-there (start .args .source) (start .args .n) f (work .scratch-apart) (work .list .few) in (
+      rw (the-limits .given .1) (rw (same, band-alone (the-limits .given .0 .0) _ _ (work .scratch-free) (the-write-zone .ensures)) at (c .before .all-pairs .ensures .0)),
+      (kept-both f (c .before .all-pairs .ensures .1), omega (arith, work .scratch-free, f .same-length, c .before .all-pairs .ensures .1 .same-length)),
+    )
 
 pub band-spec : {M : Type 1} → statement M
 band-spec =

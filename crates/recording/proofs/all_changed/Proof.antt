@@ -4,7 +4,8 @@ use mathlib.Core.Path.{_≡_, refl, sym}
 use mathlib.Core.List.{List}
 use native.Mathlib.Omega.{arith}
 use borrow.Author.Tests.{lt-leb, lt-ltb, not-true, not-false}
-use Rattle.recording.specs.Reading.{allChanged, duration, time}
+use Rattle.recording.specs.Reading.{duration, time}
+use Rattle.recording.specs.Tests.{allChanged}
 use Rattle.recording.proofs.Refusals.{inTime, late, one-wrong, one-more}
 use borrow.Author.Needs.{needs}
 use Rattle.recording.proofs.all_changed.Statement.{statement}

@@ -3,7 +3,8 @@ use Prim.Native.Nat.{_^_}
 use mathlib.Core.Bool.{and-comm, and-false}
 use lib.Dec.{ltb}
 use lib.Pow.{pow-pos}
-use Rattle.recording.specs.Reading.{changed, duration, channels, time, levels}
+use Rattle.recording.specs.Reading.{duration, channels, time, levels}
+use Rattle.recording.specs.Tests.{changed}
 use Rattle.recording.proofs.Refusals.{passed, failed, within}
 use borrow.Author.Needs.{needs}
 use Rattle.recording.proofs.changed.Statement.{statement}

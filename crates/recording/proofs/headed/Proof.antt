@@ -1,5 +1,5 @@
 -- At each `return` the tests that led there decide the test of the whole head.
-use Rattle.recording.specs.Reading.{headed}
+use Rattle.recording.specs.Tests.{headed}
 use Rattle.recording.proofs.Refusals.{passed, failed}
 use borrow.Author.Needs.{needs}
 use Rattle.recording.proofs.headed.Statement.{statement}

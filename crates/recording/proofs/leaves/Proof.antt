@@ -1,6 +1,6 @@
 -- Change 0 is the time before the first one.
 use borrow.Author.Tests.{eq-eqb, ne-eqb}
-use Rattle.recording.specs.Scan.{leaves}
+use Rattle.recording.specs.Search.{leaves}
 use borrow.Author.Needs.{needs}
 use Rattle.recording.proofs.leaves.Statement.{statement}
 use Rattle.recording.proofs.leaves.Tie as tie

@@ -1,21 +1,21 @@
 -- Each answer is given by the first test that fails.
 use native.Mathlib.Omega.{arith}
-use Rattle.recording.specs.Reading.{reading}
-use Rattle.recording.proofs.Refusals.{passed, failed, sized-is, headed-is, one-bit-each}
+use Rattle.recording.specs.declared.Reading.the-variants.{WrongLength, WrongHead, WrongChange, Recorded}
+use Rattle.recording.proofs.Refusals.{passed, failed, sized-is, headed-is, one-bit-each, reading, exactly}
 use borrow.Author.Needs.{needs}
 use Rattle.recording.proofs.read.Statement.{statement}
 use Rattle.recording.proofs.read.Tie as tie
 
 returns : tie.Need-returns
 unfolding reading
-returns c = rw (failed (c .before .sized .ensures) (c .if1 .taken))
+returns c = exactly _ _ WrongLength .0 (rw (failed (c .before .sized .ensures) (c .if1 .taken)))
 
 headed-requires : tie.Need-headed-requires
 headed-requires c κs = let s = sized-is (c .before .before .before .args .largest) (c .before .before .before .args .bytes .now) .0 (passed (c .before .sized .ensures) (c .if1 .left)) in omega (arith, s .some, s .whole)
 
 returns-2 : tie.Need-returns-2
 unfolding reading
-returns-2 c = rw (passed (c .before .before .before .sized .ensures) (c .before .before .if1 .left), failed (c .before .headed .ensures) (c .if2 .taken))
+returns-2 c = exactly _ _ WrongHead .0 (rw (passed (c .before .before .before .sized .ensures) (c .before .before .if1 .left), failed (c .before .headed .ensures) (c .if2 .taken)))
 
 sub-changes : tie.Need-sub-changes
 sub-changes c =
@@ -45,7 +45,7 @@ all-changed-requires c κs =
 
 returns-3 : tie.Need-returns-3
 unfolding reading
-returns-3 c = rw (passed (c .before .before .before .before .before .before .before .sized .ensures) (c .before .before .before .before .before .before .if1 .left), passed (c .before .before .before .before .before .headed .ensures) (c .before .before .before .before .if2 .left), failed (c .before .all-changed .ensures) (c .if3 .taken))
+returns-3 c = exactly _ _ WrongChange .0 (rw (passed (c .before .before .before .before .before .before .before .sized .ensures) (c .before .before .before .before .before .before .if1 .left), passed (c .before .before .before .before .before .headed .ensures) (c .before .before .before .before .if2 .left), failed (c .before .all-changed .ensures) (c .if3 .taken)))
 
 tick-requires : tie.Need-tick-requires
 tick-requires c κs =
@@ -56,7 +56,7 @@ returns-4 : tie.Need-returns-4
 unfolding reading
 returns-4 c =
     let the-sized = c .before .before .before .before .before .before .before .before .sized in
-    rw (passed (the-sized .ensures) (c .before .before .before .before .before .before .before .if1 .left), passed (c .before .before .before .before .before .before .headed .ensures) (c .before .before .before .before .before .if2 .left), passed (c .before .before .all-changed .ensures) (c .before .if3 .left), c .tick .ensures, c .before .before .before .before .le32 .ensures)
+    exactly _ _ (Recorded _) .0 (rw (passed (the-sized .ensures) (c .before .before .before .before .before .before .before .if1 .left), passed (c .before .before .before .before .before .before .headed .ensures) (c .before .before .before .before .before .if2 .left), passed (c .before .before .all-changed .ensures) (c .before .if3 .left), c .tick .ensures, c .before .before .before .before .le32 .ensures))
 
 pub read-spec : {M : Type 1} → statement M
 read-spec =

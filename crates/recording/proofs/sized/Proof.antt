@@ -2,7 +2,7 @@
 use native.Mathlib.Omega.{arith}
 use lib.ListN.{length}
 use borrow.Author.Tests.{le-ltb, lt-ltb, lt-leb, le-leb}
-use Rattle.recording.specs.Reading.{sized}
+use Rattle.recording.specs.Tests.{sized}
 use Rattle.recording.proofs.sized.Statement.{statement}
 use Rattle.recording.proofs.sized.Tie as tie
 

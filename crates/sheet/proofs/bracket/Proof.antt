@@ -1,3 +1,4 @@
+-- `sheet::bracket`: one byte or the other.
 use borrow.Author.Needs.{needs}
 use Rattle.sheet.proofs.bracket.Statement.{statement}
 use Rattle.sheet.proofs.bracket.Tie as tie

@@ -1,7 +1,7 @@
 -- `sheet::finished`: its six pieces, one behind the other.
 use borrow.Author.Needs.{needs}
 use Rattle.sheet.specs.Sheet.{finished}
-use Rattle.sheet.proofs.Buffer.{_then_}
+use Rattle.text.proofs.Buffer.{_then_}
 use Rattle.sheet.proofs.finished.Statement.{statement}
 use Rattle.sheet.proofs.finished.Tie as tie
 

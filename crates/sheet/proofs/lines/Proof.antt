@@ -6,8 +6,8 @@ use native.Mathlib.Omega.{arith}
 use lib.ListN.{length}
 use borrow.Author.Needs.{needs}
 use Rattle.sheet.specs.Sheet.{lines as rows}
-use Rattle.sheet.specs.Buffer.{Appends}
-use Rattle.sheet.proofs.Buffer.{nothing, _then_}
+use Rattle.text.specs.Buffer.{Appends}
+use Rattle.text.proofs.Buffer.{nothing, _then_}
 use Rattle.sheet.proofs.lines.Statement.{statement}
 use Rattle.sheet.proofs.lines.Tie as tie
 

@@ -1,7 +1,8 @@
+-- `sheet::negated`: a limit's number is small enough to be negated.
 use mathlib.Core.Path.{_∙_, ap}
 use lib.IntN.{negℤ}
 use borrow.Author.Needs.{needs}
-use Rattle.sheet.proofs.Signed.{difference-fits, read-small, negative-is}
+use Rattle.sheet.proofs.Limits.{difference-fits, read-small, negative-is}
 use Rattle.sheet.proofs.negated.Statement.{statement}
 use Rattle.sheet.proofs.negated.Tie as tie
 

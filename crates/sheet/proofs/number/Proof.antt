@@ -1,6 +1,7 @@
+-- `sheet::number`: either case holds a number of 32 bits.
 use mathlib.Core.Path.{refl}
 use borrow.Author.Needs.{needs}
-use Rattle.sheet.proofs.Signed.{wide-fits, wide-is}
+use Rattle.sheet.proofs.Limits.{wide-fits, wide-is}
 use Rattle.sheet.proofs.number.Statement.{statement}
 use Rattle.sheet.proofs.number.Tie as tie
 

@@ -2,8 +2,8 @@
 use mathlib.Core.Path.{sym, _∙_}
 use borrow.Author.Needs.{needs}
 use Rattle.sheet.specs.Sheet.{range}
-use Rattle.sheet.proofs.Signed.{back}
-use Rattle.sheet.proofs.Buffer.{_then_}
+use Rattle.text.proofs.Signed.{back}
+use Rattle.text.proofs.Buffer.{_then_}
 use Rattle.sheet.proofs.range.Statement.{statement}
 use Rattle.sheet.proofs.range.Tie as tie
 

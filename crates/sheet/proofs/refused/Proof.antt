@@ -1,7 +1,7 @@
 -- `sheet::refused`: its three pieces, one behind the other.
 use borrow.Author.Needs.{needs}
 use Rattle.sheet.specs.Sheet.{refused}
-use Rattle.sheet.proofs.Buffer.{_then_}
+use Rattle.text.proofs.Buffer.{_then_}
 use Rattle.sheet.proofs.refused.Statement.{statement}
 use Rattle.sheet.proofs.refused.Tie as tie
 

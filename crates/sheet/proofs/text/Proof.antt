@@ -1,4 +1,4 @@
--- `text` meets its contract: a refusal, words that are missing, or a finished list. Assumes nothing.
+-- `sheet::text`: a refusal, words that are missing, or a finished list.
 use mathlib.Core.Path.{sym}
 use native.Mathlib.Omega.{arith}
 use Rattle.sheet.proofs.Sheet.{refusal-sheet, finished-sheet, told, told-short}

@@ -1,4 +1,4 @@
-use Rattle.star.proofs.Turning.{Turning, turn-start, turn-apart, turn-inner, turn-room, turn-sound, turn-source, turn-bound, turn-kept, turn-next, turn-end, turn-over}
+use Rattle.star.proofs.Turning.{Turning, turn-start, turn-operands, turn-bound, turn-kept, turn-next, turn-end, turn-overflow}
 use borrow.Author.Needs.{needs}
 use native.Mathlib.Omega.{arith}
 use mathlib.Core.Path.{_∙_}
@@ -13,21 +13,13 @@ abbrev μ-loop : tie.MeasureT-loop
 μ-loop words₀ inner m first second list₀ copy₀ n₀ made₀ words list copy n made = (m + 1_000_000) - made
 
 loop-holds : tie.Need-loop-holds Inv-loop μ-loop
-loop-holds c = turn-start (c .pre .0) (c .pre .3) (c .pre .4) (c .pre .5) (c .pre .6)
+loop-holds c = turn-start (c .pre .0) (c .pre .1)
 
 add-made : tie.Need-add-made Inv-loop μ-loop
-add-made c = omega (arith, turn-bound (c .before .pre .0) (c .before .pre .3) (c .before .pre .4) (c .before .pre .5) (c .loop .inv))
+add-made c = omega (arith, turn-bound (c .before .pre .0) (c .loop .inv))
 
 one-round-requires : tie.Need-one-round-requires Inv-loop μ-loop
-one-round-requires c κs =
-    let t = c .before .loop .inv in
-    let room = turn-room (c .before .before .pre .0) (c .before .before .pre .3) (c .before .before .pre .4) (c .before .before .pre .5) t (c .before .before .pre .1) (c .before .before .pre .2) in (
-      record { few = t .few; room = room .0; sound = turn-sound (c .before .before .pre .0) (c .before .before .pre .3) (c .before .before .pre .4) (c .before .before .pre .5) t },
-      turn-source (c .before .before .pre .0) (c .before .before .pre .3) (c .before .before .pre .4) (c .before .before .pre .5) t,
-      room .1,
-      turn-apart (c .before .before .pre .0) (c .before .before .pre .3) (c .before .before .pre .4) (c .before .before .pre .5) t,
-      turn-inner (c .before .before .pre .0) (c .before .before .pre .3) (c .before .before .pre .4) (c .before .before .pre .5) t,
-    )
+one-round-requires c κs = turn-operands (c .before .before .pre .0) (c .before .loop .inv)
 
 same-length : tie.Need-same-length Inv-loop μ-loop
 same-length c = c .before .before .before .one-round .ensures .1 .same-length ∙ c .before .before .before .before .before .loop .inv .frame .same-length
@@ -36,17 +28,17 @@ returns : tie.Need-returns Inv-loop μ-loop
 returns c =
     let start = c .before .before .before .before .before .before in
     let turn = c .before .before .before .before .before in
-    (turn-end (start .pre .0) (start .pre .3) (start .pre .4) (start .pre .5) (turn .loop .inv) (rw (c .enum-told .given .1) at (c .before .before .before .one-round .ensures .0)) (c .before .before .before .one-round .ensures .1), turn-kept (start .pre .0) (start .pre .3) (start .pre .4) (start .pre .5) (turn .loop .inv) (c .before .before .before .one-round .ensures .1))
+    (turn-end (start .pre .0) (turn .loop .inv) (rw (c .enum-told .given .1) at (c .before .before .before .one-round .ensures .0)) (c .before .before .before .one-round .ensures .1), turn-kept (start .pre .0) (turn .loop .inv) (c .before .before .before .one-round .ensures .1))
 
 loop-less : tie.Need-loop-less Inv-loop μ-loop
 loop-less c =
     let start = c .before .before .before .before .before .before .before in
-    omega (arith, turn-bound (start .pre .0) (start .pre .3) (start .pre .4) (start .pre .5) (c .before .before .before .before .before .before .loop .inv))
+    omega (arith, turn-bound (start .pre .0) (c .before .before .before .before .before .before .loop .inv))
 
 loop-again : tie.Need-loop-again Inv-loop μ-loop
 loop-again c =
     let start = c .before .before .before .before .before .before .before in
-    turn-next (start .pre .0) (start .pre .3) (start .pre .4) (start .pre .5) (c .before .before .before .before .before .before .loop .inv) (rw (c .before .k .given .1) at (c .before .before .before .before .one-round .ensures .0)) (c .before .before .before .before .one-round .ensures .1)
+    turn-next (start .pre .0) (c .before .before .before .before .before .before .loop .inv) (rw (c .before .k .given .1) at (c .before .before .before .before .one-round .ensures .0)) (c .before .before .before .before .one-round .ensures .1)
 
 same-length-2 : tie.Need-same-length-2 Inv-loop μ-loop
 same-length-2 c = c .before .before .before .one-round .ensures .1 .same-length ∙ c .before .before .before .before .before .loop .inv .frame .same-length
@@ -55,7 +47,7 @@ returns-2 : tie.Need-returns-2 Inv-loop μ-loop
 returns-2 c =
     let start = c .before .before .before .before .before .before in
     let turn = c .before .before .before .before .before in
-    (turn-over (start .pre .0) (start .pre .3) (start .pre .4) (start .pre .5) (turn .loop .inv) (rw (c .enum-told2 .given .1) at (c .before .before .before .one-round .ensures .0)), turn-kept (start .pre .0) (start .pre .3) (start .pre .4) (start .pre .5) (turn .loop .inv) (c .before .before .before .one-round .ensures .1))
+    (turn-overflow (start .pre .0) (turn .loop .inv) (rw (c .enum-told2 .given .1) at (c .before .before .before .one-round .ensures .0)) (c .before .before .before .one-round .ensures .1), turn-kept (start .pre .0) (turn .loop .inv) (c .before .before .before .one-round .ensures .1))
 
 pub all-rounds-spec : {M : Type 1} → statement M
 all-rounds-spec =

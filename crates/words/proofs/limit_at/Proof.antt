@@ -1,5 +1,5 @@
 use Rattle.words.specs.Words.{word}
-use Rattle.zone.specs.Limit.{decode}
+use Rattle.limit.specs.Limit.{decode}
 use Rattle.signed.proofs.Machine.{back}
 use mathlib.Core.Path.{ap, _∙_}
 use borrow.Author.Needs.{needs}

@@ -1,6 +1,7 @@
 -- Where the starts differ, they rule out one way of lying inside.
 use Rattle.zone.proofs.Steps.{is-false}
-use Rattle.words.proofs.Steps.{nested-by, starts-decide}
+use Rattle.words.proofs.Steps.{starts-decide}
+use Rattle.words.proofs.Nestings.{nested-by}
 use Rattle.words.specs.Words.{zoneAt}
 use mathlib.Core.Path.{refl, sym, _∙_}
 use borrow.Author.Needs.{needs}

@@ -1,4 +1,4 @@
-use Rattle.zone.proofs.Coding.{decode-order}
+use Rattle.limit.proofs.Coding.{decode-order}
 use Rattle.words.specs.Words.{word}
 use Rattle.signed.proofs.Machine.{back}
 use mathlib.Core.Path.{sym}

@@ -1,5 +1,5 @@
 use mathlib.Core.Path.{_∙_}
-use Rattle.zone.proofs.Signed.{read-back}
+use Rattle.limit.proofs.Signed.{read-back}
 use mathlib.Core.List.{[], _∷_}
 use Rattle.words.specs.Words.{overwrite}
 use borrow.Author.Needs.{needs}

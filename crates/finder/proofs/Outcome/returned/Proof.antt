@@ -1,4 +1,4 @@
--- `Outcome::returned` meets its contract, case by case. Assumes nothing.
+-- `Outcome::returned` meets its contract, case by case.
 use mathlib.Core.Path.{sym, ap, _∙_}
 use Rattle.finder.specs.Outcome.{returned}
 use borrow.Author.Needs.{needs}

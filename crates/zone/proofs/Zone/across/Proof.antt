@@ -1,6 +1,7 @@
 use Rattle.zone.specs.Zone.{across}
-use Rattle.zone.specs.Limit.{Limit, lesser, _⊕_}
-use Rattle.zone.proofs.Order.{⊕-comm}
+use Rattle.limit.specs.declared.Limit.{Limit}
+use Rattle.limit.specs.Limit.{lesser, _⊕_}
+use Rattle.limit.proofs.Order.{⊕-comm}
 use Rattle.zone.proofs.Ranges.{small-sum}
 use mathlib.Core.Path.{ap, _∙_}
 use native.Mathlib.Omega.{arith}

@@ -1,7 +1,6 @@
-use mathlib.Core.Path.{_≡_}
 use mathlib.Core.Bool.{_&&_}
+use Rattle.limit.proofs.Steps.{with-meaning}
 use Rattle.zone.proofs.Means.{contains-means}
-use Rattle.zone.specs.Zone.{contains}
 use borrow.Author.Needs.{needs}
 use Rattle.zone.proofs.Zone.contains.Statement.{statement}
 use Rattle.zone.proofs.Zone.contains.Tie as tie
@@ -13,8 +12,7 @@ returns c =
     let start = c .before .before .before .before .before .before in
     let z = start .args .self in
     let w = start .args .other in
-    let v : the-at-most .result && the-at-most2 .result && c .before .before .before .at-most3 .result && c .before .before .at-most4 .result && c .before .at-most5 .result && c .at-most6 .result ≡ contains z w = λ i. the-at-most .ensures i && the-at-most2 .ensures i && c .before .before .before .at-most3 .ensures i && c .before .before .at-most4 .ensures i && c .before .at-most5 .ensures i && c .at-most6 .ensures i in
-    (v, contains-means z w v)
+    with-meaning (contains-means z w) (λ i. the-at-most .ensures i && the-at-most2 .ensures i && c .before .before .before .at-most3 .ensures i && c .before .before .at-most4 .ensures i && c .before .at-most5 .ensures i && c .at-most6 .ensures i)
 
 pub contains-spec : {M : Type 1} → statement M
 contains-spec = tie.close (tie.spec (λ c κs. search needs) (λ c κs. search needs) (λ c κs. search needs) (λ c κs. search needs) (λ c κs. search needs) (λ c κs. search needs) returns)

@@ -1,0 +1,9 @@
+pub mod Linear
+pub mod Order
+pub mod Common
+pub mod Helly
+pub mod Times
+pub mod Means
+pub mod Steps
+pub mod Coding
+pub mod Signed

@@ -1,0 +1,175 @@
+-- An expression comes to one value, and to some value; its list is well formed.
+use mathlib.Core.Path.{_≡_, refl, sym, subst, _∙_, ap}
+use mathlib.Core.List.{List, [], _∷_, List·Memᴰ·eq-of-singleton as eq-of-singleton, Memᴰ·of-map}
+use Prim.Native.Nat.{ℕ, _+_, _≤_, _<_}
+use native.Mathlib.Omega.{arith}
+use Rattle.zone.specs.declared.Zone.{Zone}
+use Rattle.zone.specs.declared.MaybeZone.{MaybeZone}
+use Rattle.zone.specs.declared.MaybeZone.the-variants.{Zone as zone}
+use Rattle.zone.specs.Zone.{Proper, run, diagonal}
+use Rattle.zone.proofs.Laws.{proper-run, proper-diagonal}
+use Rattle.list.specs.Insert.{Built, listed, overflow, insert-each}
+use Rattle.operators.specs.Operators.{union as unite, meets, compositions, banded}
+use Rattle.star.specs.Star.{Closure, finished, overflow, Star as Stars}
+use Rattle.list.proofs.Theorems.{WellFormed, built-well}
+use Rattle.operators.proofs.Theorems.{union-well, meets-well, compositions-well, banded-well}
+use Rattle.star.proofs.Theorems.{star-well, star-unique, star-exists}
+use Rattle.recording.specs.declared.Level.{Level}
+use Rattle.recording.specs.declared.Run.{Run}
+use Rattle.recording.specs.Runs.{Runs}
+use Rattle.recording.proofs.Runs.{runs-unique, Complete}
+use Rattle.expression.specs.declared.Join.the-variants.{Union, Intersection, Concatenation}
+use Rattle.expression.specs.declared.Unary.the-variants.{Star, Band}
+use Rattle.expression.specs.Expression.{Expression, epsilon, literal, join, unary}
+use Rattle.meaning.specs.Satisfies.{levelOf}
+use Rattle.meaning.specs.Lists.{Value, value, overflow, ended, starred, Then, Then.goes, Then.stops, Both, runZones, Letter, rangeBand, Closes, joinList, Evaluates}
+
+-- levels of finite variability on ticks from..to: those of each channel and level make a list of maximal runs
+abbrev pub FiniteVariability : (Shows : ℕ → Level → ℕ → Type 0) (from to : ℕ) → Type 0
+FiniteVariability Shows from to = (k : ℕ) (level : Level) → (rs : List Run) × Complete (Shows k level) from to rs
+
+-- ---- one value
+
+-- the relation holds of no two values
+abbrev One : (Value → Type 0) → Type 0
+One P = (v w : Value) → P v → P w → v ≡ w
+
+pub clash : {A : Type 0} {L : List Zone} {r : ℕ} → value L r ≡ overflow → A
+clash e = let z : _≡_ {A = ℕ} 0 1 = cc in absurd (omega arith)
+
+then-one : {operand : Value → Type 0} {next : List Zone → ℕ → Value → Type 0} → One operand → ((A : List Zone) (r : ℕ) → One (next A r))
+    → One (Then operand next)
+then-one {next = next} one ones v w (goes {A} {r} p f) (goes {A = B} {r = s} q g) =
+    let e : value A r ≡ value B s = one _ _ p q in
+    let a : A ≡ B = cc in
+    let b : r ≡ s = cc in
+    ones B s v w (subst (λ (n : ℕ). next B n v) b (subst (λ (L : List Zone). next L r v) a f)) g
+then-one one ones v w (goes p f) (stops q) = clash (one _ _ p q)
+then-one one ones v w (stops p) (goes q g) = clash (one _ _ q p)
+then-one one ones v w (stops p) (stops q) = refl
+
+both-one : (build : List Zone → List Zone → Built) {left right : Value → Type 0} → One left → One right → One (Both build left right)
+both-one build l r = then-one l (λ A m. then-one r (λ B n v w p q. p ∙ sym q))
+
+letter-one : {P : ℕ → Type 0} {from to : ℕ} → One (Letter P from to)
+letter-one v w p q = p .built ∙ ap (λ (rs : List Run). ended (insert-each (runZones rs) []) 0) (runs-unique (p .maximal) (q .maximal)) ∙ sym (q .built)
+
+closes-one : {from to : ℕ} (A : List Zone) (r : ℕ) → One (Closes from to A r)
+closes-one A r v w p q = p .built ∙ ap (λ (o : Closure). starred o r) (star-unique (p .star) (q .star)) ∙ sym (q .built)
+
+module _ (Shows : ℕ → Level → ℕ → Type 0) (from to : ℕ) where
+  -- An expression comes to no two values: recording and drill alone decide the lists and the rounds.
+  pub evaluates-unique : (e : Expression) (v w : Value) → Evaluates Shows from to e v → Evaluates Shows from to e w → v ≡ w
+  evaluates-unique epsilon v w p q = p ∙ sym q
+  evaluates-unique (literal s k) v w p q = letter-one v w p q
+  evaluates-unique (join j e f) v w p q = both-one (joinList j) (evaluates-unique e) (evaluates-unique f) v w p q
+  evaluates-unique (unary Star e) v w p q = then-one (evaluates-unique e) closes-one v w p q
+  evaluates-unique (unary (Band r) e) v w p q = then-one (evaluates-unique e) (λ A s a b m n. m ∙ sym n) v w p q
+
+-- ---- the list is well formed
+
+-- a list that came out was built
+pub listed-of : (b : Built) {L : List Zone} {r s : ℕ} → value L r ≡ ended b s → (b ≡ listed L) × (r ≡ s)
+listed-of (listed M) e = (cc, cc)
+listed-of overflow e = clash e
+
+-- an operand with a list, and what came of it
+pub then-parts : {operand : Value → Type 0} {next : List Zone → ℕ → Value → Type 0} {L : List Zone} {t : ℕ} → Then operand next (value L t)
+    → (A : List Zone) × (r : ℕ) × operand (value A r) × next A r (value L t)
+then-parts (goes {A} {r} p f) = (A, r, p, f)
+
+-- two operands with their lists and rounds, and what was built of them
+pub record Parts (build : List Zone → List Zone → Built) (left right : Value → Type 0) (L : List Zone) (t : ℕ) : Type 0 where
+  pub one : List Zone
+  pub two : List Zone
+  pub rounds-one : ℕ
+  pub rounds-two : ℕ
+  pub first : left (value one rounds-one)
+  pub second : right (value two rounds-two)
+  pub built : build one two ≡ listed L
+  pub total : t ≡ rounds-one + rounds-two
+
+pub both-parts : (build : List Zone → List Zone → Built) {left right : Value → Type 0} {L : List Zone} {t : ℕ} → Both build left right (value L t)
+    → Parts build left right L t
+both-parts build p =
+    let a = then-parts p in
+    let b = then-parts (a .3) in
+    let c = listed-of (build (a .0) (b .0)) (b .3) in
+    record { one = a .0; two = b .0; rounds-one = a .1; rounds-two = b .1; first = a .2; second = b .2; built = c .0; total = c .1 }
+
+-- the star's own rounds
+pub closes-parts : {from to : ℕ} {A G : List Zone} {r t : ℕ} → Closes from to A r (value G t)
+    → (k : ℕ) × Stars A (diagonal from to) (finished k G) × (t ≡ r + k)
+closes-parts {from} {to} {A} {G} {r} {t} c = go (c .outcome) (c .star) (c .built)
+  where
+    go : (o : Closure) → Stars A (diagonal from to) o → value G t ≡ starred o r → (k : ℕ) × Stars A (diagonal from to) (finished k G) × (t ≡ r + k)
+    go (finished k F) s e = let q : F ≡ G = cc in (k, subst (λ (L : List Zone). Stars A (diagonal from to) (finished k L)) q s, cc)
+    go overflow s e = clash e
+
+-- the runs of a letter, and the list that was built of them
+pub letter-parts : {P : ℕ → Type 0} {from to : ℕ} {L : List Zone} {t : ℕ} → Letter P from to (value L t)
+    → (rs : List Run) × Runs P from to rs × (insert-each (runZones rs) [] ≡ listed L) × (t ≡ 0)
+letter-parts p = let q = listed-of (insert-each (runZones (p .runs)) []) (p .built) in (p .runs, p .maximal, q .0, q .1)
+
+zone-same : {z w : Zone} → _≡_ {A = MaybeZone} (zone z) (zone w) → z ≡ w
+zone-same e = cc
+
+module _ (Shows : ℕ → Level → ℕ → Type 0) {from to : ℕ} (order : from ≤ to) where
+  letter-well : {P : ℕ → Type 0} {L : List Zone} {t : ℕ} → Letter P from to (value L t) → WellFormed from to L
+  letter-well p =
+      let q = letter-parts p in
+      built-well (runZones (q .0)) (q .2)
+      (λ z m. let k = Memᴰ·of-map (λ (r : Run). zone (run (r .start) (r .end))) (q .0) m in
+      let x = q .1 .each (k .0) (k .1) in
+      subst (Proper from to) (zone-same (k .2)) (proper-run (k .0 .start) (k .0 .end) (x .lower) (x .some) (x .upper)))
+
+  -- The list of an expression holds tight zones inside from..to, none inside another, at most 128.
+  pub evaluates-well : (e : Expression) (t : ℕ) {L : List Zone} → Evaluates Shows from to e (value L t) → WellFormed from to L
+  evaluates-well epsilon t p =
+      built-well (zone (diagonal from to) ∷ []) (listed-of (insert-each (zone (diagonal from to) ∷ []) []) p .0)
+      (λ z m. subst (Proper from to) (sym (zone-same (eq-of-singleton m))) (proper-diagonal from to order))
+  evaluates-well (literal s k) t p = letter-well p
+  evaluates-well (join Union e f) t p =
+      let q = both-parts unite p in union-well (q .one) (q .two) (evaluates-well e _ (q .first) .proper) (evaluates-well f _ (q .second) .proper) (q .built)
+  evaluates-well (join Intersection e f) t p =
+      let q = both-parts meets p in meets-well (q .one) (q .two) (evaluates-well e _ (q .first) .proper) (q .built)
+  evaluates-well (join Concatenation e f) t p =
+      let q = both-parts compositions p in
+      compositions-well (q .one) (q .two) (evaluates-well e _ (q .first) .proper) (evaluates-well f _ (q .second) .proper) (q .built)
+  evaluates-well (unary Star e) t p =
+      let q = then-parts p in let c = closes-parts (q .3) in star-well (c .1) order (evaluates-well e _ (q .2))
+  evaluates-well (unary (Band r) e) t p =
+      let q = then-parts p in
+      banded-well (rangeBand from to r) (q .0) (evaluates-well e _ (q .2) .proper) (listed-of (banded (rangeBand from to r) (q .0)) (q .3) .0)
+
+-- ---- some value
+
+-- the relation holds of some value
+abbrev Some : (Value → Type 0) → Type 0
+Some P = (v : Value) × P v
+
+then-some : {operand : Value → Type 0} {next : List Zone → ℕ → Value → Type 0} → Some operand
+    → ((A : List Zone) (r : ℕ) → operand (value A r) → Some (next A r)) → Some (Then operand next)
+then-some {operand} {next} p f = go (p .0) (p .1)
+  where
+    go : (v : Value) → operand v → Some (Then operand next)
+    go (value A r) q = let n = f A r q in (n .0, goes q (n .1))
+    go overflow q = (overflow, stops q)
+
+both-some : (build : List Zone → List Zone → Built) {left right : Value → Type 0} → Some left → Some right → Some (Both build left right)
+both-some build l r = then-some l (λ A m _. then-some r (λ B n _. (ended (build A B) (m + n), refl)))
+
+module _ {Shows : ℕ → Level → ℕ → Type 0} {from to : ℕ} (finite : FiniteVariability Shows from to) (some : from < to) where
+  letter-some : (k : ℕ) (level : Level) → Some (Letter (Shows k level) from to)
+  letter-some k level = let r = finite k level in (ended (insert-each (runZones (r .0)) []) 0, record { runs = r .0; maximal = r .1 .runs; built = refl })
+
+  -- An expression comes to some value: every repetition ends.
+  pub evaluates-exists : (e : Expression) → (v : Value) × Evaluates Shows from to e v
+  evaluates-exists epsilon = (ended (insert-each (zone (diagonal from to) ∷ []) []) 0, refl)
+  evaluates-exists (literal s k) = letter-some k (levelOf s)
+  evaluates-exists (join j e f) = both-some (joinList j) (evaluates-exists e) (evaluates-exists f)
+  evaluates-exists (unary Star e) =
+      then-some (evaluates-exists e)
+      (λ A r p. let s = star-exists (evaluates-well Shows (omega arith) e r p .proper) some (diagonal from to) in
+      (starred (s .0) r, record { outcome = s .0; star = s .1; built = refl }))
+  evaluates-exists (unary (Band r) e) = then-some (evaluates-exists e) (λ A s _. (ended (banded (rangeBand from to r) A) s, refl))

@@ -1,0 +1,77 @@
+-- What it means to satisfy an expression: equal times satisfy alike, a satisfying stretch runs forward, and a letter is Definition 3's.
+use mathlib.Core.Logic.{_↔_, ⊎-map, ⊎-elim}
+use Prim.Native.Nat.{ℕ, suc}
+use Rattle.limit.specs.Time.{Time, tick, _≤ᵀ_, _<ᵀ_, _≈ᵀ_}
+use Rattle.limit.specs.Limit.{most, least}
+use Rattle.limit.proofs.Times.{≤-trans, <-≤, ≈-≤, ≈-refl, ≈-sym, ≈-trans, within-same}
+use Rattle.star.specs.Pieces.{Pieces, Pieces.none, Pieces.more}
+use Rattle.recording.specs.declared.Level.{Level}
+use Rattle.expression.specs.declared.Upper.{Upper}
+use Rattle.expression.specs.declared.Upper.the-variants.{Endless, UpTo}
+use Rattle.expression.specs.declared.Join.the-variants.{Union, Intersection, Concatenation}
+use Rattle.expression.specs.declared.Unary.the-variants.{Star, Band}
+use Rattle.expression.specs.Expression.{Expression, epsilon, literal, join, unary}
+use Rattle.meaning.specs.Satisfies.{Throughout, NoLonger, Satisfies}
+use Rattle.meaning.proofs.Strict.{<-same, <-trans, ≤-<-trans, <-≤-trans, common, tick-next}
+
+-- ---- pieces
+
+module _ {P : Time → Time → Type 0} where
+  pub pieces-same : ((x y u v : Time) → x ≈ᵀ u → y ≈ᵀ v → P x y → P u v)
+      → {n : ℕ} {x y u v : Time} → x ≈ᵀ u → y ≈ᵀ v → Pieces P n x y → Pieces P n u v
+  pieces-same same p q (none e) = none (≈-trans (≈-sym p) (≈-trans e q))
+  pieces-same same {y = y} {v = v} p q (more {t = t} ps r) = more (pieces-same same p (≈-refl t) ps) (same t y t v (≈-refl t) q r)
+
+  pub pieces-forward : ((x y : Time) → P x y → x ≤ᵀ y) → {n : ℕ} {x y : Time} → Pieces P n x y → x ≤ᵀ y
+  pieces-forward forward (none e) = ≈-≤ e .0
+  pieces-forward forward {y = y} (more {t = t} ps r) = ≤-trans (pieces-forward forward ps) (forward t y r)
+
+-- ---- a letter
+
+throughout-same : {P : ℕ → Type 0} {x y u v : Time} → x ≈ᵀ u → y ≈ᵀ v → Throughout P x y → Throughout P u v
+throughout-same p q h = record { some = <-same p q (h .some); each = λ n a b. h .each n (≤-<-trans (≈-≤ p .0) a) (<-≤-trans b (≈-≤ q .1)) }
+
+-- what holds at a time that is strictly inside a tick is what holds of the tick; "Values at the boundary points don't count", so that
+-- nothing is asked at a whole tick
+abbrev pub At : (ℕ → Type 0) → Time → Type 0
+At P t = (n : ℕ) → tick n <ᵀ t → t <ᵀ tick (suc n) → P n
+
+-- The letter is Definition 3's: start < end, and it holds at every time strictly between.
+pub throughout-is : {P : ℕ → Type 0} {x y : Time} → Throughout P x y ↔ ((x <ᵀ y) × ((t : Time) → x <ᵀ t → t <ᵀ y → At P t))
+throughout-is = (
+  λ h. (h .some, λ t a b n c d. h .each n (<-trans a d) (<-trans c b)),
+  λ h. record {
+    some = h .0;
+    each = λ n a b. let c = common (h .0) a b (tick-next n) in h .1 (c .0) (c .1) (c .2) n (c .3) (c .4);
+  },
+)
+
+-- ---- expressions
+
+no-longer-same : (hi : Upper) {x y u v : Time} → x ≈ᵀ u → y ≈ᵀ v → NoLonger hi x y → NoLonger hi u v
+no-longer-same Endless p q h = tt
+no-longer-same (UpTo hi) p q h = within-same (most hi) q p h
+
+module _ (Shows : ℕ → Level → ℕ → Type 0) where
+  -- Equal times satisfy alike: 1/1 and 2/2 are one time everywhere.
+  pub satisfies-same : (e : Expression) (x y u v : Time) → x ≈ᵀ u → y ≈ᵀ v → Satisfies Shows e x y → Satisfies Shows e u v
+  satisfies-same epsilon x y u v p q h = ≈-trans (≈-sym p) (≈-trans h q)
+  satisfies-same (literal s k) x y u v p q h = throughout-same p q h
+  satisfies-same (join Union e f) x y u v p q h = ⊎-map (satisfies-same e x y u v p q) (satisfies-same f x y u v p q) h
+  satisfies-same (join Intersection e f) x y u v p q h = (satisfies-same e x y u v p q (h .0), satisfies-same f x y u v p q (h .1))
+  satisfies-same (join Concatenation e f) x y u v p q h =
+      let t = h .0 in
+      (t, ≤-trans (≈-≤ p .1) (h .1), ≤-trans (h .2) (≈-≤ q .0), satisfies-same e x t u t p (≈-refl t) (h .3), satisfies-same f t y t v (≈-refl t) q (h .4))
+  satisfies-same (unary Star e) x y u v p q h = (h .0, pieces-same (satisfies-same e) p q (h .1))
+  satisfies-same (unary (Band r) e) x y u v p q h =
+      (satisfies-same e x y u v p q (h .0), (within-same (least (r .lo)) p q (h .1 .0), no-longer-same (r .hi) p q (h .1 .1)))
+
+  -- A satisfying stretch has start ≤ end.
+  pub satisfies-forward : (e : Expression) (x y : Time) → Satisfies Shows e x y → x ≤ᵀ y
+  satisfies-forward epsilon x y h = ≈-≤ h .0
+  satisfies-forward (literal s k) x y h = <-≤ (h .some)
+  satisfies-forward (join Union e f) x y h = ⊎-elim (satisfies-forward e x y) (satisfies-forward f x y) h
+  satisfies-forward (join Intersection e f) x y h = satisfies-forward e x y (h .0)
+  satisfies-forward (join Concatenation e f) x y h = ≤-trans (h .1) (h .2)
+  satisfies-forward (unary Star e) x y h = pieces-forward (satisfies-forward e) (h .1)
+  satisfies-forward (unary (Band r) e) x y h = satisfies-forward e x y (h .0)

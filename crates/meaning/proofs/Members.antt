@@ -1,0 +1,170 @@
+-- The stretches inside from..to that lie in the list of an expression are those that satisfy it.
+use mathlib.Core.Path.{_≡_, sym, subst}
+use mathlib.Core.Logic.{_↔_, ⊎-map, ⊎-elim, Iff·trans}
+use mathlib.Core.List.{List, [], _∷_, List·Memᴰ, Memᴰ·map, Memᴰ·of-map}
+use Prim.Native.Nat.{ℕ, suc, _≤_}
+use native.Mathlib.Omega.{arith}
+use Rattle.limit.specs.Time.{Time, tick, _≤ᵀ_, _<ᵀ_}
+use Rattle.zone.specs.declared.Zone.{Zone}
+use Rattle.zone.specs.declared.MaybeZone.{MaybeZone}
+use Rattle.zone.specs.declared.MaybeZone.the-variants.{Zone as zone}
+use Rattle.limit.specs.Limit.{Within}
+use Rattle.zone.specs.Zone.{In, InMaybe, run, diagonal}
+use Rattle.limit.proofs.Times.{≤-trans, ≤-total, tick-≤}
+use Rattle.zone.proofs.Laws.{run-members, diagonal-members, band-members, whole-most}
+use Rattle.list.specs.Insert.{listed, insert-each}
+use Rattle.operators.specs.Operators.{union as unite, meets, compositions, banded}
+use Rattle.star.specs.Pieces.{Pieces, Pieces.none, Pieces.more}
+use Rattle.list.specs.Members.{Lies, AllProper}
+use Rattle.list.proofs.Members.{offered-one}
+use Rattle.list.proofs.Theorems.{built-lies}
+use Rattle.operators.proofs.Theorems.{union-lies, meets-lies, compositions-lies, banded-lies}
+use Rattle.star.proofs.Theorems.{star-lies}
+use Rattle.recording.specs.declared.Level.{Level}
+use Rattle.recording.specs.declared.Run.{Run}
+use Rattle.recording.proofs.Runs.{runs-unique, Complete, Held}
+use Rattle.expression.specs.declared.Range.{Range}
+use Rattle.expression.specs.declared.Upper.{Upper}
+use Rattle.expression.specs.declared.Upper.the-variants.{Endless, UpTo}
+use Rattle.expression.specs.declared.Join.the-variants.{Union, Intersection, Concatenation}
+use Rattle.expression.specs.declared.Unary.the-variants.{Star, Band}
+use Rattle.expression.specs.Expression.{Expression, epsilon, literal, join, unary}
+use Rattle.meaning.specs.Satisfies.{Stretch, Throughout, NoLonger, Lasts, levelOf, Satisfies}
+use Rattle.meaning.specs.Lists.{value, runZones, Letter, longest, shortest, rangeBand, Evaluates}
+use Rattle.meaning.proofs.Strict.{≤-<-trans, <-≤-trans, tick-<, floor, floor-≤, floor-<}
+use Rattle.meaning.proofs.Meaning.{pieces-forward, satisfies-forward}
+use Rattle.meaning.proofs.Evaluation.{FiniteVariability, listed-of, then-parts, both-parts, closes-parts, letter-parts, evaluates-well}
+
+-- what lies in a list of proper zones is inside from..to
+lies-inside : {from to : ℕ} {L : List Zone} {x y : Time} → AllProper from to L → Lies L x y → Stretch from to x y
+lies-inside {x = x} {y = y} h l =
+    let i = h (l .in-zone) (l .among) .inside .inside x y (l .member) in record { after = i .0; forward = i .1; before = i .2 }
+
+-- ---- a letter
+
+module _ {P : ℕ → Type 0} {from to : ℕ} (runs : (rs : List Run) × Complete P from to rs) where
+  -- the run that holds the tick of the start holds the whole stretch
+  within-run : {x y : Time} → Stretch from to x y → Throughout P x y → (r : Run) × List·Memᴰ r (runs .0) × In (run (r .start) (r .end)) x y
+  within-run {x} {y} s h = (k .holder, k .listed, run-members (k .holder .start) (k .holder .end) x y .1 (≤-trans (tick-≤ (k .after)) (floor-≤ x), h .some, ends))
+    where
+      begins : tick (floor x) <ᵀ y
+      begins = ≤-<-trans (floor-≤ x) (h .some)
+
+      k : Held (runs .0) (floor x)
+      k =
+          let a = tick-< (≤-<-trans (s .after) (floor-< x)) in
+          runs .1 .covers (floor x) (omega arith) (tick-< (<-≤-trans begins (s .before))) (h .each (floor x) (floor-< x) begins)
+
+      -- else the tick at its end would be overlapped too, and so be part of it
+      ends : y ≤ᵀ tick (k .holder .end)
+      ends =
+          let m = runs .1 .runs .each (k .holder) (k .listed) in
+          let next : x <ᵀ tick (suc (k .holder .end)) = <-≤-trans (floor-< x) (tick-≤ (let d = k .before in omega arith)) in
+          ⊎-elim (λ q. q) (λ q. absurd (m .right (tick-< (<-≤-trans q (s .before))) (h .each (k .holder .end) next q))) (≤-total y (tick (k .holder .end)))
+
+  letter-members : {L : List Zone} {t : ℕ} {x y : Time} → Letter P from to (value L t) → Stretch from to x y → Lies L x y ↔ Throughout P x y
+  letter-members {L} {t} {x} {y} p s =
+      let q = letter-parts p in
+      let same : q .0 ≡ runs .0 = runs-unique (q .1) (runs .1 .runs) in
+      Iff·trans (built-lies (runZones (q .0)) (q .2) x y) (
+        λ o. let k = Memᴰ·of-map (λ (r : Run). zone (run (r .start) (r .end))) (q .0) (o .1) in
+            let m = q .1 .each (k .0) (k .1) in
+            let i = run-members (k .0 .start) (k .0 .end) x y .0 (subst (λ (z : MaybeZone). InMaybe z x y) (sym (k .2)) (o .2)) in
+            record {
+              some = i .1;
+              each = λ n a b. m .holds n (let d = tick-< (≤-<-trans (i .0) a) in omega arith) (tick-< (<-≤-trans b (i .2)));
+            },
+        λ h. let w = within-run s h in
+            (zone (run (w .0 .start) (w .0 .end)), Memᴰ·map (λ (r : Run). zone (run (r .start) (r .end))) (subst (List·Memᴰ (w .0)) (sym same) (w .1)), w .2),
+      )
+
+-- ---- a band
+
+-- "a missing hi" asks nothing of a stretch inside from..to
+longest-is : (hi : Upper) {from to : ℕ} {x y : Time} → from ≤ to → Stretch from to x y → Within (longest from to hi) y x ↔ NoLonger hi x y
+longest-is Endless h s = (λ _. tt, λ _. whole-most h (s .after) (s .forward) (s .before))
+longest-is (UpTo hi) h s = (λ w. w, λ w. w)
+
+-- The band handed to the zone layer is document 01's: of the stretches inside from..to it holds those with lo ≤ end − start ≤ hi.
+pub range-band : (r : Range) {from to : ℕ} {x y : Time} → from ≤ to → Stretch from to x y → InMaybe (rangeBand from to r) x y ↔ Lasts r x y
+range-band r {from} {to} {x} {y} h s =
+    let b = band-members from to (longest from to (r .hi)) (shortest (r .lo)) x y in
+    let l = longest-is (r .hi) h s in
+    (λ i. let m = b .0 i in (m .2, l .0 (m .1)), λ i. b .1 ((s .after, s .forward, s .before), l .1 (i .1), i .0))
+
+-- ---- pieces
+
+module _ {P Q : Time → Time → Type 0} where
+  -- pieces of one kind are pieces of another
+  pub pieces-map : ((s t : Time) → P s t → Q s t) → {n : ℕ} {x y : Time} → Pieces P n x y → Pieces Q n x y
+  pieces-map f (none e) = none e
+  pieces-map f {y = y} (more {t = t} ps p) = more (pieces-map f ps) (f t y p)
+
+  -- the same where that is known inside from..to only
+  pieces-inside : {from to : ℕ} → ((s t : Time) → P s t → s ≤ᵀ t) → ((s t : Time) → Stretch from to s t → P s t → Q s t)
+      → {n : ℕ} {x y : Time} → Stretch from to x y → Pieces P n x y → Pieces Q n x y
+  pieces-inside fw f s (none e) = none e
+  pieces-inside fw f {y = y} s (more {t = t} ps p) =
+      let a = pieces-forward fw ps in
+      let b = fw t y p in
+      more (pieces-inside fw f (record { after = s .after; forward = a; before = ≤-trans b (s .before) }) ps)
+      (f t y (record { after = ≤-trans (s .after) a; forward = b; before = s .before }) p)
+
+-- where a list of proper zones holds the stretches of a kind, it is cut into pieces as they are
+pieces-iff : {from to : ℕ} {A : List Zone} {S : Time → Time → Type 0} → AllProper from to A → ((u v : Time) → S u v → u ≤ᵀ v)
+    → ((u v : Time) → Stretch from to u v → Lies A u v ↔ S u v) → {x y : Time} → Stretch from to x y → (n : ℕ) → Pieces (Lies A) n x y ↔ Pieces S n x y
+pieces-iff w fw same s n = (pieces-map (λ u v l. same u v (lies-inside w l) .0 l), pieces-inside fw (λ u v i. same u v i .1) s)
+
+-- ---- expressions
+
+module _ (Shows : ℕ → Level → ℕ → Type 0) {from to : ℕ} (finite : FiniteVariability Shows from to) (order : from ≤ to) where
+  -- Demand 2: in the list of an expression lie exactly the stretches that satisfy it.
+  pub members : (e : Expression) (t : ℕ) {L : List Zone} → Evaluates Shows from to e (value L t)
+      → (x y : Time) → Stretch from to x y → Lies L x y ↔ Satisfies Shows e x y
+  members epsilon t p x y s =
+      let b = listed-of (insert-each (zone (diagonal from to) ∷ []) []) p .0 in
+      let d = diagonal-members from to x y in
+      Iff·trans (built-lies (zone (diagonal from to) ∷ []) b x y)
+      (Iff·trans (offered-one (diagonal from to) x y) (λ i. d .0 i .1, λ e. d .1 (s .after, e, s .before)))
+  members (literal a k) t p x y s = letter-members (finite k (levelOf a)) p s
+  members (join Union e f) t p x y s =
+      let q = both-parts unite p in
+      let a = members e _ (q .first) x y s in
+      let b = members f _ (q .second) x y s in
+      Iff·trans (union-lies (q .one) (q .two) (q .built) x y) (⊎-map (a .0) (b .0), ⊎-map (a .1) (b .1))
+  members (join Intersection e f) t p x y s =
+      let q = both-parts meets p in
+      let a = members e _ (q .first) x y s in
+      let b = members f _ (q .second) x y s in
+      Iff·trans (meets-lies (q .one) (q .two) (q .built) x y) (λ l. (a .0 (l .0), b .0 (l .1)), λ h. (a .1 (h .0), b .1 (h .1)))
+  members (join Concatenation e f) t p x y s =
+      let q = both-parts compositions p in
+      let u = evaluates-well Shows order e _ (q .first) .proper in
+      let v = evaluates-well Shows order f _ (q .second) .proper in
+      Iff·trans (compositions-lies (q .one) (q .two) u v (q .built) x y) (
+        λ l. let i = lies-inside u (l .1) in
+            let j = lies-inside v (l .2) in
+            (l .0, i .forward, j .forward, members e _ (q .first) x (l .0) i .0 (l .1), members f _ (q .second) (l .0) y j .0 (l .2)),
+        λ h. (
+          h .0,
+          members e _ (q .first) x (h .0) (record { after = s .after; forward = h .1; before = ≤-trans (h .2) (s .before) }) .1 (h .3),
+          members f _ (q .second) (h .0) y (record { after = ≤-trans (s .after) (h .1); forward = h .2; before = s .before }) .1 (h .4),
+        ),
+      )
+  members (unary Star e) t p x y s =
+      let q = then-parts p in
+      let c = closes-parts (q .3) in
+      let w = evaluates-well Shows order e _ (q .2) .proper in
+      let i = pieces-iff w (satisfies-forward Shows e) (members e _ (q .2)) s in
+      Iff·trans (star-lies (c .1) w x y (s .after) (s .before)) (λ l. (l .0, i (l .0) .0 (l .1)), λ h. (h .0, i (h .0) .1 (h .1)))
+  members (unary (Band r) e) t p x y s =
+      let q = then-parts p in
+      let a = members e _ (q .2) x y s in
+      let b = range-band r order s in
+      Iff·trans (banded-lies (rangeBand from to r) (q .0) (listed-of (banded (rangeBand from to r) (q .0)) (q .3) .0) x y)
+      (λ l. (a .0 (l .0), b .0 (l .1)), λ h. (a .1 (h .0), b .1 (h .1)))
+
+  -- and its list is cut into pieces as the expression is
+  pub pieces-members : (f : Expression) (t : ℕ) {A : List Zone} → Evaluates Shows from to f (value A t)
+      → {x y : Time} → Stretch from to x y → (n : ℕ) → Pieces (Lies A) n x y ↔ Pieces (λ u v. Satisfies Shows f u v) n x y
+  pieces-members f t p s = pieces-iff (evaluates-well Shows order f t p .proper) (satisfies-forward Shows f) (members f t p) s

@@ -1,0 +1,3 @@
+-- What a drill means: definitions alone.
+pub mod Satisfies
+pub mod Lists

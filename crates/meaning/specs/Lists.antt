@@ -1,0 +1,120 @@
+-- The list of an expression and its rounds: "The list of an operator is built from the finished lists of its operands, the left one finished
+-- before the right one is begun". Of ticks from..to and any levels.
+use mathlib.Core.Path.{_≡_}
+use mathlib.Core.List.{List, [], _∷_, _++_, map}
+use Prim.Native.Nat.{ℕ, _+_, _-_}
+use Rattle.zone.specs.declared.Zone.{Zone}
+use Rattle.zone.specs.declared.MaybeZone.{MaybeZone}
+use Rattle.zone.specs.declared.MaybeZone.the-variants.{Zone as zone}
+use Rattle.limit.specs.declared.Limit.{Limit}
+use Rattle.limit.specs.Limit.{most, least}
+use Rattle.zone.specs.Zone.{run, diagonal, band as bandOf}
+use Rattle.list.specs.Insert as puts
+use Rattle.list.specs.Insert.{Built, listed, insert-each}
+use Rattle.operators.specs.Operators.{union as unite, meets, compositions, banded}
+use Rattle.star.specs.Star as rounds
+use Rattle.star.specs.Star.{Closure, finished, Star as Stars}
+use Rattle.recording.specs.declared.Level.{Level}
+use Rattle.recording.specs.declared.Run.{Run}
+use Rattle.recording.specs.Runs.{Runs}
+use Rattle.expression.specs.declared.Range.{Range}
+use Rattle.expression.specs.declared.Upper.{Upper}
+use Rattle.expression.specs.declared.Upper.the-variants.{Endless, UpTo}
+use Rattle.expression.specs.declared.Join.{Join}
+use Rattle.expression.specs.declared.Join.the-variants.{Union, Intersection, Concatenation}
+use Rattle.expression.specs.declared.Unary.{Unary}
+use Rattle.expression.specs.declared.Unary.the-variants.{Star, Band}
+use Rattle.expression.specs.Expression.{Expression, epsilon, literal, join, unary}
+use Rattle.meaning.specs.Satisfies.{levelOf}
+
+-- what an expression comes to: its list and its total of rounds, or that "a put would leave a list of 129 zones"
+pub data Value : Type 0 where
+  value : List Zone → ℕ → Value
+  overflow : Value
+
+-- a list that is built after r rounds; and a star's, its own rounds being added to the r before them
+abbrev pub ended : Built → ℕ → Value
+ended (listed L) r = value L r
+ended puts.overflow r = overflow
+
+abbrev pub starred : Closure → ℕ → Value
+starred (finished k G) r = value G (r + k)
+starred rounds.overflow r = overflow
+
+-- an operand, and what comes of its finished list and rounds; where the operand overflows, so does the whole
+pub data Then (operand : Value → Type 0) (next : List Zone → ℕ → Value → Type 0) : Value → Type 0 where
+  goes : {A : List Zone} {r : ℕ} {v : Value} → operand (value A r) → next A r v → Then operand next v
+  stops : operand overflow → Then operand next overflow
+
+-- two operands, "the left one finished before the right one is begun", and what is built of both lists
+abbrev pub Both : (List Zone → List Zone → Built) → (Value → Type 0) → (Value → Type 0) → Value → Type 0
+Both build left right = Then left (λ A r. Then right (λ B s v. v ≡ ended (build A B) (r + s)))
+
+-- "maximal runs, put in rising time, run s to e giving s ≤ start, end ≤ e, start < end"
+abbrev pub runZones : List Run → List MaybeZone
+runZones = map (λ (r : Run). zone (run (r .start) (r .end)))
+
+pub record Letter (P : ℕ → Type 0) (from to : ℕ) (v : Value) : Type 0 where
+  pub runs : List Run
+  pub maximal : Runs P from to runs
+  pub built : v ≡ ended (insert-each (runZones runs) []) 0
+
+-- the limits of a band, on end − start and on start − end; a missing hi is to − from, which no stretch exceeds
+abbrev pub longest : ℕ → ℕ → Upper → Limit
+longest from to Endless = most (to - from)
+longest from to (UpTo hi) = most hi
+
+abbrev pub shortest : ℕ → Limit
+shortest lo = least lo
+
+abbrev pub rangeBand : ℕ → ℕ → Range → MaybeZone
+rangeBand from to r = bandOf from to (longest from to (r .hi)) (shortest (r .lo))
+
+-- the star of the operand's list A, after the operand's r rounds: "begin with the inner list", rounds, "Then the diagonal is put"
+pub record Closes (from to : ℕ) (A : List Zone) (r : ℕ) (v : Value) : Type 0 where
+  pub outcome : Closure
+  pub star : Stars A (diagonal from to) outcome
+  pub built : v ≡ starred outcome r
+
+-- "`|`: put the left zones, then the right ones, into an empty list"; "`&` and `.`: for each left zone, for each right zone, put the meet (for
+-- `.` the composition)"
+abbrev pub joinList : Join → List Zone → List Zone → Built
+joinList Union = unite
+joinList Intersection = meets
+joinList Concatenation = compositions
+
+-- "`*`: begin with the inner list. A round .. Then the diagonal is put"; "`{lo,hi}`: put each zone's meet with the band"
+abbrev pub applied : ℕ → ℕ → Unary → List Zone → ℕ → Value → Type 0
+applied from to Star A r v = Closes from to A r v
+applied from to (Band range) A r v = v ≡ ended (banded (rangeBand from to range) A) r
+
+-- the expression comes to the value
+abbrev pub Evaluates : (Shows : ℕ → Level → ℕ → Type 0) (from to : ℕ) → Expression → Value → Type 0
+-- "`_`: the diagonal, start = end"
+Evaluates Shows from to epsilon v = v ≡ ended (insert-each (zone (diagonal from to) ∷ []) []) 0
+-- "a letter or `!`"
+Evaluates Shows from to (literal s k) v = Letter (Shows k (levelOf s)) from to v
+-- an operator with two operands, and with one
+Evaluates Shows from to (join j e f) v = Both (joinList j) (Evaluates Shows from to e) (Evaluates Shows from to f) v
+Evaluates Shows from to (unary u e) v = Then (Evaluates Shows from to e) (applied from to u) v
+
+-- the parts repeated, one for each `*` written in an expression
+unfoldable pub repeated : Expression → List Expression
+repeated epsilon = []
+repeated (literal s k) = []
+repeated (join j e f) = repeated e ++ repeated f
+repeated (unary Star e) = e ∷ repeated e
+repeated (unary (Band r) e) = repeated e
+
+-- the `*` of f has k rounds: "The rounds of a `*` are all that this rule makes from its inner list, the last included"
+pub record RoundsOf (Shows : ℕ → Level → ℕ → Type 0) (from to : ℕ) (f : Expression) (k : ℕ) : Type 0 where
+  pub inner : List Zone
+  pub before : ℕ
+  pub list : Evaluates Shows from to f (value inner before)
+  pub outer : List Zone
+  pub star : Stars inner (diagonal from to) (finished k outer)
+
+-- the sum of a number of each: "the sum of these rounds over all `*` of the drill, each one written counted by itself, and 0 where there is none"
+pub data Sum (P : Expression → ℕ → Type 0) : List Expression → ℕ → Type 0 where
+  none : Sum P [] 0
+  also : {f : Expression} {fs : List Expression} {k n : ℕ} → P f k → Sum P fs n → Sum P (f ∷ fs) (k + n)

@@ -1,0 +1,58 @@
+-- "What a stretch satisfies": Definition 3 of document 004, over any levels and all times. `Shows k level n` says that channel k has the
+-- level in tick n.
+use mathlib.Core.Logic.{_⊎_}
+use Prim.Native.Nat.{ℕ, suc}
+use Rattle.limit.specs.Time.{Time, tick, _≤ᵀ_, _<ᵀ_, _≈ᵀ_}
+use Rattle.limit.specs.Limit.{Within, most, least}
+use Rattle.star.specs.Pieces.{Pieces}
+use Rattle.recording.specs.declared.Level.{Level}
+use Rattle.recording.specs.declared.Level.the-variants.{High, Low}
+use Rattle.expression.specs.declared.Range.{Range}
+use Rattle.expression.specs.declared.Upper.{Upper}
+use Rattle.expression.specs.declared.Upper.the-variants.{Endless, UpTo}
+use Rattle.expression.specs.declared.Sign.{Sign}
+use Rattle.expression.specs.declared.Sign.the-variants.{High as plain, Low as negated}
+use Rattle.expression.specs.declared.Join.the-variants.{Union, Intersection, Concatenation}
+use Rattle.expression.specs.declared.Unary.the-variants.{Star, Band}
+use Rattle.expression.specs.Expression.{Expression, epsilon, literal, join, unary}
+
+-- "A stretch has start ≤ end, both in 0 to d": of ticks from..to
+pub record Stretch (from to : ℕ) (x y : Time) : Type 0 where
+  pub after : tick from ≤ᵀ x
+  pub forward : x ≤ᵀ y
+  pub before : y ≤ᵀ tick to
+
+-- "start < end, and the channel is high in each tick that the open stretch overlaps": of what is said of a tick
+pub record Throughout (P : ℕ → Type 0) (x y : Time) : Type 0 where
+  pub some : x <ᵀ y
+  pub each : (n : ℕ) → x <ᵀ tick (suc n) → tick n <ᵀ y → P n
+
+-- "end − start ≤ hi"; "hi may be missing, meaning no upper limit"
+abbrev pub NoLonger : Upper → Time → Time → Type 0
+NoLonger Endless x y = Unit {0}
+NoLonger (UpTo hi) x y = Within (most hi) y x
+
+-- "lo ≤ end − start ≤ hi"
+abbrev pub Lasts : Range → Time → Time → Type 0
+Lasts r x y = Within (least (r .lo)) x y × NoLonger (r .hi) x y
+
+-- the level that a letter asks for: "a letter", and "`!` the same with low"
+abbrev pub levelOf : Sign → Level
+levelOf plain = High
+levelOf negated = Low
+
+-- the stretch from x to y satisfies the expression
+abbrev pub Satisfies : (Shows : ℕ → Level → ℕ → Type 0) → Expression → Time → Time → Type 0
+-- "`_`: start = end"
+Satisfies Shows epsilon x y = x ≈ᵀ y
+-- "a letter", and "`!` the same with low"
+Satisfies Shows (literal s k) x y = Throughout (Shows k (levelOf s)) x y
+-- "`|`, `&`: either, both"
+Satisfies Shows (join Union e f) x y = Satisfies Shows e x y ⊎ Satisfies Shows f x y
+Satisfies Shows (join Intersection e f) x y = Satisfies Shows e x y × Satisfies Shows f x y
+-- "some cut, any fraction between start and end, of any N, where the left part fits the first and the right part the second"
+Satisfies Shows (join Concatenation e f) x y = (t : Time) × (x ≤ᵀ t) × (t ≤ᵀ y) × Satisfies Shows e x t × Satisfies Shows f t y
+-- "some number of consecutive pieces that each fit the operand, zero (start = end) included"
+Satisfies Shows (unary Star e) x y = (n : ℕ) × Pieces (λ s t. Satisfies Shows e s t) n x y
+-- "also lo ≤ end − start ≤ hi"
+Satisfies Shows (unary (Band r) e) x y = Satisfies Shows e x y × Lasts r x y

@@ -1,0 +1,4 @@
+pub mod Pairs
+pub mod Loops
+pub mod Puts
+pub mod Growing

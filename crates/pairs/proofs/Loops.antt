@@ -1,0 +1,51 @@
+-- What the loops that put zones go by: puts may be made in parts, and a bit that says whether some put was placed tells whether the list
+-- has changed.
+use mathlib.Core.Path.{_≡_, refl, sym, ap, subst, _∙_}
+use mathlib.Core.Bool.{Bool, true, false}
+use mathlib.Core.List.{List, [], _∷_, _++_, map, append-assoc, List·Memᴰ·head}
+use Rattle.zone.specs.declared.Zone.{Zone}
+use Rattle.zone.specs.declared.MaybeZone.{MaybeZone}
+use Rattle.zone.specs.declared.MaybeZone.the-variants.{Zone as zone, Empty as empty}
+use Rattle.list.specs.Insert.{Put, away, placed, overflow, insert, Built, listed, after, insert-each}
+use Rattle.pairs.specs.Pairs.{Operation, apply, pairs}
+use Rattle.list.specs.Members.{Covered}
+use Rattle.pairs.specs.Growth.{Alters}
+use Rattle.list.proofs.Coverage.{puts-keep, puts-new, placed-puts, placed-new}
+
+-- ---- puts in parts
+
+-- go on with the list that was built, if there is one
+abbrev pub then : Built → (List Zone → Built) → Built
+then (listed M) next = next M
+then overflow next = overflow
+
+pub insert-each-append : (rs ss : List MaybeZone) (L : List Zone) → insert-each (rs ++ ss) L ≡ then (insert-each rs L) (insert-each ss)
+unfolding insert-each
+insert-each-append [] ss L = refl
+insert-each-append (empty ∷ rs) ss L = insert-each-append rs ss L
+insert-each-append (zone z ∷ rs) ss L = go (λ K. insert-each-append rs ss K) (insert z L)
+  where
+    go : ((K : List Zone) → insert-each (rs ++ ss) K ≡ then (insert-each rs K) (insert-each ss)) → (p : Put)
+        → after p L (insert-each (rs ++ ss)) ≡ then (after p L (insert-each rs)) (insert-each ss)
+    go below away = below L
+    go below (placed M) = below M
+    go below overflow = refl
+
+pub pairs-append : (op : Operation) (A B C : List Zone) → pairs op (A ++ B) C ≡ pairs op A C ++ pairs op B C
+unfolding pairs
+pairs-append op [] B C = refl
+pairs-append op (z ∷ A) B C = ap (λ (k : List MaybeZone). map (apply op z) C ++ k) (pairs-append op A B C) ∙ sym (append-assoc (map (apply op z) C) (pairs op A C) (pairs op B C))
+
+-- ---- whether the list was altered
+
+pub alters-start : (S : List Zone) → Alters false S S
+alters-start S = refl
+
+-- a put that is placed is never undone (one that is turned away leaves list and bit as they are)
+pub alters-placed : (b : Bool) (z : Zone) {S : List Zone} (M : List Zone) {N : List Zone} → Alters b S M → insert z M ≡ placed N → Alters true S N
+alters-placed false z {S} M m e = (z, puts-new (placed-puts z M e) z (List·Memᴰ·head refl), λ c. placed-new z M e (subst (Covered z) (sym m) c))
+alters-placed true z M m e = (m .0, puts-keep (placed-puts z M e) (m .0) (m .1), m .2)
+
+-- the bit tells whether the list has changed
+pub alters-changed : {S M : List Zone} → Alters true S M → ¬ (M ≡ S)
+alters-changed m e = m .2 (subst (Covered (m .0)) e (m .1))

@@ -1,0 +1,4 @@
+pub mod Pairs
+pub mod Operands
+pub mod Growth
+pub mod Steps

@@ -1,0 +1,89 @@
+-- Small texts, read by computing.
+use mathlib.Core.Path.{_≡_, refl, sym, ap, _∙_}
+use mathlib.Core.Bool.{Bool, true, false}
+use mathlib.Core.List.{List, [], _∷_}
+use Prim.Native.Nat.{ℕ}
+use Prim.Native.String.{String, [] as []ₛ, _∷_ as _∷ₛ_}
+use Prim.Native.Char.{code}
+use Rattle.expression.specs.declared.Range.{Range}
+use Rattle.expression.specs.declared.Upper.the-variants.{Endless, UpTo}
+use Rattle.expression.specs.declared.Sign.the-variants.{High, Low}
+use Rattle.expression.specs.declared.Join.the-variants.{Union, Intersection, Concatenation}
+use Rattle.expression.specs.declared.Unary.the-variants.{Star, Band}
+use Rattle.expression.specs.Expression.{Expression, epsilon, literal, join, unary}
+use Rattle.expression.specs.Grammar.{Form, alternative}
+use Rattle.tokens.specs.Tokens.{Got, no, yes, branch, bind, starts, rest, expect, ranged, digits, number, upper, limits}
+use Rattle.parser.specs.Descent.{postfixes, joining, read, height, descent}
+use Rattle.tokens.proofs.Text.{false-true}
+use Rattle.parser.proofs.Complete.{whole-sound, whole-complete}
+
+abbrev bytes : String → List ℕ
+bytes []ₛ = []
+bytes (c ∷ₛ s) = code c ∷ bytes s
+
+-- the text is the drill e
+abbrev Is : String → Expression → Type 0
+Is s e = Form alternative (bytes s) e
+
+-- the text is no drill
+abbrev None : String → Type 0
+None s = (e : Expression) → Form alternative (bytes s) e → ⊥
+
+-- nothing is read, or some text is left
+leftover : Got Expression → Bool
+leftover no = true
+leftover (yes e []) = false
+leftover (yes e (c ∷ r)) = true
+
+none : (s : List ℕ) → leftover (descent (joining Union) s) ≡ true → (e : Expression) → Form alternative s e → ⊥
+unfolding leftover
+none s h e f = false-true (sym (ap leftover (whole-complete f)) ∙ h)
+
+abbrev a : Expression
+a = literal High 0
+
+abbrev within : ℕ → ℕ → Range
+within lo hi = record { lo = lo; hi = UpTo hi }
+
+-- Stars and bands are applied left to right, joins group to the left and bind as the grammar says, brackets add nothing.
+pub drills : Is "_" epsilon × Is "p" (literal High 15) × Is "!p" (literal Low 15) × Is "a**" (unary Star (unary Star a)) × Is "a*{1,2}*" (unary Star (unary (Band (within 1 2)) (unary Star a)))
+    × Is "a.b|c&d" (join Union (join Concatenation a (literal High 1)) (join Intersection (literal High 2) (literal High 3))) × Is "a.b.c" (join Concatenation (join Concatenation a (literal High 1)) (literal High 2))
+    × Is "a|b|c" (join Union (join Union a (literal High 1)) (literal High 2)) × Is "a.(b.c)" (join Concatenation a (join Concatenation (literal High 1) (literal High 2)))
+    × Is "(a|!a)*" (unary Star (join Union a (literal Low 0))) × Is "a{0,}" (unary (Band (record { lo = 0; hi = Endless })) a) × Is "(a{2,2})*" (unary Star (unary (Band (within 2 2)) a))
+    × Is "((a))" a × Is "a{10,205}" (unary (Band (within 10 205)) a)
+unfolding descent read height branch bind starts rest expect ranged digits number upper limits postfixes
+drills = (
+  whole-sound _ _ refl,
+  whole-sound _ _ refl,
+  whole-sound _ _ refl,
+  whole-sound _ _ refl,
+  whole-sound _ _ refl,
+  whole-sound _ _ refl,
+  whole-sound _ _ refl,
+  whole-sound _ _ refl,
+  whole-sound _ _ refl,
+  whole-sound _ _ refl,
+  whole-sound _ _ refl,
+  whole-sound _ _ refl,
+  whole-sound _ _ refl,
+  whole-sound _ _ refl,
+)
+
+-- A leading zero, a missing lo, comma, brace or operand, blanks, and letters beyond `p` are not of the form.
+pub no-drills : None "a{01,2}" × None "a{,2}" × None "a{2}" × None "()" × None "a b" × None "q" × None "!_" × None "a." × None "|a" × None "a&" × None "a{1,2" × None "(a" × None "a)"
+unfolding descent read height branch bind starts rest expect ranged digits number upper limits postfixes leftover
+no-drills = (
+  none _ refl,
+  none _ refl,
+  none _ refl,
+  none _ refl,
+  none _ refl,
+  none _ refl,
+  none _ refl,
+  none _ refl,
+  none _ refl,
+  none _ refl,
+  none _ refl,
+  none _ refl,
+  none _ refl,
+)

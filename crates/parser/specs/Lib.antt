@@ -1,0 +1,3 @@
+pub mod Parsing
+pub mod Descent
+pub mod Readers

@@ -1,0 +1,117 @@
+-- For the private readers alone: what they ask and promise each other. No public contract cites it.
+use mathlib.Core.Path.{_≡_}
+use mathlib.Core.Bool.{Bool, true, false, cond, _||_}
+use mathlib.Core.List.{List}
+use Prim.Native.Nat.{ℕ, suc, _+_, _*_, _<_, _≤_, max}
+use lib.Dec.{ltb}
+use lib.ListN.{length, drop}
+use Rattle.expression.specs.declared.Range.{Range}
+use Rattle.expression.specs.declared.Upper.{Upper}
+use Rattle.expression.specs.declared.Upper.the-variants.{Endless, UpTo}
+use Rattle.parser.specs.declared.Parsed.{Parsed}
+use Rattle.parser.specs.declared.Parsed.the-variants.{Root, NoForm, WrongLetter, WrongRange, TooDeep}
+use Rattle.parser.specs.declared.Tree.{Tree}
+use Rattle.parser.specs.declared.Read.{Read}
+use Rattle.parser.specs.declared.Read.the-variants.{Part, Stop}
+use Rattle.expression.specs.declared.Unary.{Unary}
+use Rattle.expression.specs.declared.Unary.the-variants.{Star, Band}
+use Rattle.expression.specs.Expression.{Expression, epsilon, literal, join, unary, depth}
+use Rattle.expression.specs.Stored.{Stored, FrontKept}
+use Rattle.tokens.specs.Tokens.{Got, no, yes, starts, cappedUnary}
+use Rattle.parser.specs.Descent.{Rank, descent}
+
+-- an expression as it is stored: all numbers above 1,000,000 alike
+unfoldable pub capped : Expression → Expression
+capped epsilon = epsilon
+capped (literal s k) = literal s k
+capped (join j e f) = join j (capped e) (capped f)
+capped (unary u e) = unary (cappedUnary u) (capped e)
+
+-- one more than the highest letter
+unfoldable pub width : Expression → ℕ
+width epsilon = 0
+width (literal s k) = suc k
+width (join j e f) = max (width e) (width f)
+width (unary u e) = width e
+
+-- cause 7 as a test (`Wrong` of expression/specs/Refusal): some bound is above 1,000,000, or lo is above hi
+abbrev pub wrongUpper : ℕ → Upper → Bool
+wrongUpper lo Endless = false
+wrongUpper lo (UpTo hi) = ltb 1000000 hi || ltb hi lo
+
+abbrev pub wrongRange : Range → Bool
+wrongRange r = ltb 1000000 (r .lo) || wrongUpper (r .lo) (r .hi)
+
+abbrev pub wrongUnary : Unary → Bool
+wrongUnary Star = false
+wrongUnary (Band r) = wrongRange r
+
+unfoldable pub wrong : Expression → Bool
+wrong epsilon = false
+wrong (literal s k) = false
+wrong (join j e f) = wrong e || wrong f
+wrong (unary u e) = wrongUnary u || wrong e
+
+-- the tree of a node at the free place, over the operands that `under` sums up
+abbrev pub over : Tree → Tree
+over under =
+    record { at = under .at; root = under .used; used = under .used + 1; depth = under .depth + 1; width = under .width; wrong = under .wrong }
+
+-- the operands of a join
+abbrev pub beside : Tree → Tree → Tree
+beside left right =
+    record {
+      at = right .at;
+      root = right .root;
+      used = right .used;
+      depth = max (left .depth) (right .depth);
+      width = max (left .width) (right .width);
+      wrong = left .wrong || right .wrong;
+    }
+
+-- the operand of an operator whose text ends before `at`
+abbrev pub around : Tree → ℕ → Bool → Tree
+around tree at w = record { at = at; root = tree .root; used = tree .used; depth = tree .depth; width = tree .width; wrong = w || tree .wrong }
+
+-- no operand
+abbrev pub nothing : ℕ → ℕ → ℕ → Tree
+nothing at used w = record { at = at; root = 0; used = used; depth = 0; width = w; wrong = false }
+
+-- What the reader of a level asks where it begins, at `at` with `used` nodes stored: the text is not too long, no more nodes are stored than bytes
+-- were read, and there is room for a node for each byte.
+pub record Ready (text : List ℕ) (at : ℕ) (nodes : List ℕ) (used : ℕ) : Type 0 where
+  pub short : length text < 256
+  pub few : used ≤ at
+  pub room : length text * 4 ≤ length nodes
+
+-- From `at` on the text is, up to the tree's place, the expression e, stored at its root; what is left of the reading is `rest`.
+pub record Reached (k : Rank) (rest : Expression → List ℕ → Got Expression) (text : List ℕ) (at used : ℕ) (before after : List ℕ) (tree : Tree) : Type 0 where
+  pub ahead : at < tree .at
+  pub inside : tree .at ≤ length text
+  pub few : tree .used + at ≤ tree .at + used
+  pub grown : used ≤ tree .used
+  pub rooted : tree .root < tree .used
+  pub shallow : tree .depth ≤ tree .used
+  pub kept : FrontKept (used * 4) before after
+  pub e : Expression
+  pub stored : Stored after (tree .root) (capped e)
+  pub depth-is : tree .depth ≡ depth e
+  pub width-is : tree .width ≡ width e
+  pub wrong-is : tree .wrong ≡ wrong e
+  pub read : descent k (drop at text) ≡ rest e (drop (tree .at) text)
+
+-- what the reader of a level makes of the text from `at` on, with `used` nodes stored before
+abbrev pub ReadAs : Rank → List ℕ → ℕ → ℕ → List ℕ → List ℕ → Read → Type 0
+ReadAs k text at used before after (Part tree) = Reached k yes text at used before after tree
+ReadAs k text at used before after Stop = descent k (drop at text) ≡ no
+
+-- the part with the closing bracket after it
+abbrev pub ClosedAs : List ℕ → Tree → Read → Type 0
+ClosedAs text inner (Part t) = (starts 41 (drop (inner .at) text) ≡ true) × (inner .at < length text) × (t ≡ around inner (inner .at + 1) false)
+ClosedAs text inner Stop = starts 41 (drop (inner .at) text) ≡ false
+
+-- what the checks 5 to 8, in the order of their numbers, say of a text of `size` bytes of which the tree is the part that was read
+abbrev pub verdict : ℕ → ℕ → Tree → Parsed
+verdict size channels tree =
+    cond (ltb (tree .at) size) NoForm
+    (cond (ltb channels (tree .width)) WrongLetter (cond (tree .wrong) WrongRange (cond (ltb 16 (tree .depth)) TooDeep (Root (tree .root)))))

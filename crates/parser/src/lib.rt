@@ -1,0 +1,310 @@
+// Reads the text of a drill into a tree of nodes in a lent buffer of words, or says which of the causes 4 to 8 of
+// document 01 refuses it. Nothing is known here of recordings: the channel count is a number.
+//
+// specs/Parsing.antt says what the answer is. The readers of the grammar's levels (alternative, conjunction, sequence, repeat,
+// primary) call each other in a cycle; each reads the text from `at` on, and tells where it ends. What stands at a place of the
+// text is read in `tokens`.
+use expression::Join;
+use expression::Node;
+use expression::Range;
+use expression::Unary;
+use expression::Upper;
+use tokens::Lettered;
+use tokens::Postfix;
+ghost use mathlib.Core.Path.{_≡_};
+ghost use mathlib.Core.Bool.{_||_};
+ghost use Prim.Native.Nat.{_+_, _*_, _≤_, _<_, max, min};
+ghost use lib.ListN.{length};
+ghost use Rattle.expression.specs.declared.Join.the-variants.{Union, Intersection, Concatenation};
+ghost use Rattle.expression.specs.Stored.{Placed};
+ghost use Rattle.parser.specs.Parsing.{ParsedAs};
+ghost use Rattle.parser.specs.Descent.{symbol as symbolOf, joining, repeating, single, below};
+ghost use Rattle.parser.specs.Readers.{wrongRange, wrongUnary, over, beside, around, nothing, ClosedAs, Ready, ReadAs, verdict};
+
+// The root of the tree, or the refusal.
+pub enum Parsed {
+    Root(u32),
+    WrongLength,
+    NoForm,
+    WrongLetter,
+    WrongRange,
+    TooDeep,
+}
+
+// A part of the text that was read: what is unread starts at `at`, and `used` nodes are stored.
+struct Tree {
+    at: usize,
+    root: u32,
+    used: u32,
+    depth: u32,
+    // One more than the highest letter.
+    width: u32,
+    // Some range has a bound above 1,000,000, or its bounds in the wrong order.
+    wrong: bool,
+}
+
+// What a reader of a level comes to.
+enum Read {
+    Part(Tree),
+    Stop,
+}
+
+fn larger(x: u32, y: u32) -> u32
+    ensures { λ r. ⌜ r ≡ max x y ⌝ }
+{
+    if x < y { y } else { x }
+}
+
+fn either(x: bool, y: bool) -> bool
+    ensures { λ r. ⌜ r ≡ (x || y) ⌝ }
+{
+    if x { true } else { y }
+}
+
+// Stores a node over the operands that `under` sums up.
+fn add(nodes: &mut [u32], under: Tree, node: Node) -> Tree
+    requires { ⌜ (under .used < 255) × (under .depth ≤ under .used) × (under .used * 4 + 4 ≤ length (now nodes)) ⌝ }
+    ensures { λ r. ⌜ (r ≡ over under) × Placed (under .used) node (now (nodes .entry)) (now (nodes .exit)) ⌝ }
+{
+    let used = under.used;
+    expression::store(nodes, used, node);
+    Tree {
+        at: under.at,
+        root: used,
+        used: used + 1,
+        depth: under.depth + 1,
+        width: under.width,
+        wrong: under.wrong,
+    }
+}
+
+// The operands of a join.
+fn pair(left: Tree, right: Tree) -> Tree
+    ensures { λ r. ⌜ r ≡ beside left right ⌝ }
+{
+    Tree {
+        at: right.at,
+        root: right.root,
+        used: right.used,
+        depth: larger(left.depth, right.depth),
+        width: larger(left.width, right.width),
+        wrong: either(left.wrong, right.wrong),
+    }
+}
+
+// A bound is above 1,000,000, or lo is above hi.
+fn wrong_range(range: Range) -> bool
+    ensures { λ r. ⌜ r ≡ wrongRange range ⌝ }
+{
+    let lo = range.lo;
+    let hi = range.hi;
+    if 1000000 < lo {
+        return true;
+    }
+    match hi {
+        Upper::Endless => false,
+        Upper::UpTo(n) => either(1000000 < n, n < lo),
+    }
+}
+
+// The range of a band is wrong.
+fn wrong_operator(op: Unary) -> bool
+    ensures { λ r. ⌜ r ≡ wrongUnary op ⌝ }
+{
+    match op {
+        Unary::Star => false,
+        Unary::Band(range) => wrong_range(range),
+    }
+}
+
+// Conjunctions joined by `|`.
+fn alternative(text: &[u8], at: usize, nodes: &mut [u32], used: u32) -> Read
+    requires { ⌜ Ready (now text) at (now nodes) used ⌝ }
+    ensures { λ r. ⌜ ReadAs (joining Union) (now (text .entry)) at used (now (nodes .entry)) (now (nodes .exit)) r ⌝ }
+{
+    chain(text, at, nodes, used, Join::Union)
+}
+
+// Sequences joined by `&`.
+fn conjunction(text: &[u8], at: usize, nodes: &mut [u32], used: u32) -> Read
+    requires { ⌜ Ready (now text) at (now nodes) used ⌝ }
+    ensures { λ r. ⌜ ReadAs (joining Intersection) (now (text .entry)) at used (now (nodes .entry)) (now (nodes .exit)) r ⌝ }
+{
+    chain(text, at, nodes, used, Join::Intersection)
+}
+
+// Repeats joined by `.`.
+fn sequence(text: &[u8], at: usize, nodes: &mut [u32], used: u32) -> Read
+    requires { ⌜ Ready (now text) at (now nodes) used ⌝ }
+    ensures { λ r. ⌜ ReadAs (joining Concatenation) (now (text .entry)) at used (now (nodes .entry)) (now (nodes .exit)) r ⌝ }
+{
+    chain(text, at, nodes, used, Join::Concatenation)
+}
+
+// The byte between the operands of a join.
+fn symbol(join: Join) -> u8
+    ensures { λ r. ⌜ r ≡ symbolOf join ⌝ }
+{
+    match join {
+        Join::Union => b'|',
+        Join::Intersection => b'&',
+        Join::Concatenation => b'.',
+    }
+}
+
+// Operands of a join, one or more, grouped to the left.
+fn chain(text: &[u8], at: usize, nodes: &mut [u32], used: u32, join: Join) -> Read
+    requires { ⌜ Ready (now text) at (now nodes) used ⌝ }
+    ensures { λ r. ⌜ ReadAs (joining join) (now (text .entry)) at used (now (nodes .entry)) (now (nodes .exit)) r ⌝ }
+{
+    let Read::Part(first) = operand(text, at, nodes, used, join) else {
+        return Read::Stop;
+    };
+    let byte = symbol(join);
+    let mut tree = first;
+    while tokens::byte_is(text, tree.at, byte) {
+        let Read::Part(right) = operand(text, tree.at + 1, nodes, tree.used, join) else {
+            return Read::Stop;
+        };
+        let node = Node::Infix(join, tree.root, right.root);
+        tree = add(nodes, pair(tree, right), node);
+    }
+    Read::Part(tree)
+}
+
+// An operand of a join, which is of the level below it.
+fn operand(text: &[u8], at: usize, nodes: &mut [u32], used: u32, join: Join) -> Read
+    requires { ⌜ Ready (now text) at (now nodes) used ⌝ }
+    ensures { λ r. ⌜ ReadAs (below join) (now (text .entry)) at used (now (nodes .entry)) (now (nodes .exit)) r ⌝ }
+{
+    match join {
+        Join::Union => conjunction(text, at, nodes, used),
+        Join::Intersection => sequence(text, at, nodes, used),
+        Join::Concatenation => repeat(text, at, nodes, used),
+    }
+}
+
+// The operand of an operator whose text ends before `at`.
+fn extended(tree: Tree, at: usize, wrong: bool) -> Tree
+    ensures { λ r. ⌜ r ≡ around tree at wrong ⌝ }
+{
+    Tree {
+        at,
+        root: tree.root,
+        used: tree.used,
+        depth: tree.depth,
+        width: tree.width,
+        wrong: either(wrong, tree.wrong),
+    }
+}
+
+// A primary followed by any number of `*` and `{lo,hi}`.
+fn repeat(text: &[u8], at: usize, nodes: &mut [u32], used: u32) -> Read
+    requires { ⌜ Ready (now text) at (now nodes) used ⌝ }
+    ensures { λ r. ⌜ ReadAs repeating (now (text .entry)) at used (now (nodes .entry)) (now (nodes .exit)) r ⌝ }
+{
+    let Read::Part(first) = primary(text, at, nodes, used) else {
+        return Read::Stop;
+    };
+    let mut tree = first;
+    loop {
+        let Postfix::Operator(end, op) = tokens::postfix_at(text, tree.at) else {
+            return Read::Part(tree);
+        };
+        let node = Node::Applied(op, tree.root);
+        tree = add(nodes, extended(tree, end, wrong_operator(op)), node);
+    }
+}
+
+// A node without operands.
+fn leaf(nodes: &mut [u32], used: u32, at: usize, node: Node, width: u32) -> Read
+    requires { ⌜ (used < 255) × (used * 4 + 4 ≤ length (now nodes)) ⌝ }
+    ensures { λ r. ⌜ (r ≡ Read.Part (over (nothing at used width))) × Placed used node (now (nodes .entry)) (now (nodes .exit)) ⌝ }
+{
+    let under = Tree {
+        at,
+        root: 0,
+        used,
+        depth: 0,
+        width,
+        wrong: false,
+    };
+    Read::Part(add(nodes, under, node))
+}
+
+// `_`, a letter, `!` and a letter, or a whole alternative in round brackets.
+fn primary(text: &[u8], at: usize, nodes: &mut [u32], used: u32) -> Read
+    requires { ⌜ Ready (now text) at (now nodes) used ⌝ }
+    ensures { λ r. ⌜ ReadAs single (now (text .entry)) at used (now (nodes .entry)) (now (nodes .exit)) r ⌝ }
+{
+    if tokens::byte_is(text, at, b'_') {
+        return leaf(nodes, used, at + 1, Node::Epsilon, 0);
+    }
+    if tokens::byte_is(text, at, b'(') {
+        let Read::Part(inner) = alternative(text, at + 1, nodes, used) else {
+            return Read::Stop;
+        };
+        return closed(text, inner);
+    }
+    let Lettered::Letter(end, sign, channel) = tokens::letter_at(text, at) else {
+        return Read::Stop;
+    };
+    leaf(nodes, used, end, Node::Literal(sign, channel), channel + 1)
+}
+
+// The part with the closing bracket that has to follow it.
+fn closed(text: &[u8], inner: Tree) -> Read
+    requires { ⌜ length (now text) < 256 ⌝ }
+    ensures { λ r. ⌜ ClosedAs (now (text .entry)) inner r ⌝ }
+{
+    let at = inner.at;
+    if !tokens::byte_is(text, at, b')') {
+        return Read::Stop;
+    }
+    Read::Part(Tree {
+        at: at + 1,
+        root: inner.root,
+        used: inner.used,
+        depth: inner.depth,
+        width: inner.width,
+        wrong: inner.wrong,
+    })
+}
+
+// The checks 5 to 8, in the order of their numbers, of a text of `size` bytes of which `tree` is the part that was read.
+fn judged(tree: Tree, size: usize, channels: usize) -> Parsed
+    ensures { λ r. ⌜ r ≡ verdict size channels tree ⌝ }
+{
+    if tree.at < size {
+        return Parsed::NoForm;
+    }
+    let width = tree.width as usize;
+    if channels < width {
+        return Parsed::WrongLetter;
+    }
+    if tree.wrong {
+        return Parsed::WrongRange;
+    }
+    if 16 < tree.depth {
+        return Parsed::TooDeep;
+    }
+    Parsed::Root(tree.root)
+}
+
+// Reads a whole text. `channels` is the channel count of the recording. The nodes have room for one for each byte of a text that
+// is not too long.
+pub fn parse(text: &[u8], channels: usize, nodes: &mut [u32]) -> Parsed
+    requires { ⌜ min (length (now text)) 255 * 4 ≤ length (now nodes) ⌝ }
+    ensures { λ r. ⌜ ParsedAs (now (text .entry)) channels (now (nodes .exit)) r ⌝ }
+{
+    if text.len() == 0 {
+        return Parsed::WrongLength;
+    }
+    if 255 < text.len() {
+        return Parsed::WrongLength;
+    }
+    let Read::Part(tree) = alternative(text, 0, nodes, 0) else {
+        return Parsed::NoForm;
+    };
+    judged(tree, text.len(), channels)
+}

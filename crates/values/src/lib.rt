@@ -1,0 +1,176 @@
+// What an expression comes to, in a slot of a lent work buffer: its list with its rounds, or that it overflows; and what an
+// operator comes to from the values of its operands. A list is built in a free slot and brought to its place.
+//
+// specs/Values.antt says how a slot holds a value; the crate `meaning` which value it is.
+use expression::Join;
+use expression::Range;
+use expression::Unary;
+use expression::Upper;
+use limit::Limit;
+use list::SLOT_WORDS;
+use operators::Listed;
+use star::Starred;
+use zone::MaybeZone;
+use zone::Zone;
+ghost use mathlib.Core.Path.{_≡_};
+ghost use Prim.Native.Nat.{_+_, _*_, _≤_};
+ghost use Rattle.limit.specs.Limit.{most};
+ghost use Rattle.list.specs.Slots.{slot-words, listAt, Kept, Source};
+ghost use Rattle.operators.specs.Operators.{banded};
+ghost use Rattle.pairs.specs.Operands.{Operands};
+ghost use Rattle.operators.specs.Listing.{BuiltAs};
+ghost use Rattle.expression.specs.Refusal.{Wrong};
+ghost use Rattle.expression.specs.Planted.{Right};
+ghost use Rattle.meaning.specs.Lists.{ended, longest, rangeBand, Closes, joinList, applied};
+ghost use Rattle.values.specs.Values.{EvaluatedAs, Ticks, Ready, most-rounds, Came, Carried};
+
+// The words of two slots: how far behind its operands' slots a list is built.
+const TWO_SLOTS: usize = 2 * SLOT_WORDS;
+
+// What an expression comes to: a list with its count and its total of rounds, or one that would have 129 zones.
+pub enum Evaluated {
+    Listed { count: usize, rounds: u64 },
+    Overflow,
+}
+
+// `|`, `&` and `.`: the list of the operator, from the lists of n and m zones at `left` and `right`, built at `target`.
+fn build(
+    op: Join,
+    work: &mut [i32],
+    left: usize,
+    n: usize,
+    right: usize,
+    m: usize,
+    target: usize,
+) -> Listed
+    requires { ⌜ Operands (now work) left n right m target 0 ⌝ }
+    ensures built { λ r. ⌜ BuiltAs (joinList op (listAt (now (work .entry)) left n) (listAt (now (work .entry)) right m)) (now (work .exit)) target r ⌝ }
+    ensures kept { λ _. ⌜ Kept target slot-words (now (work .entry)) (now (work .exit)) ⌝ }
+{
+    match op {
+        Join::Union => operators::union(work, left, n, right, m, target),
+        Join::Intersection => operators::meets(work, left, n, right, m, target),
+        Join::Concatenation => operators::compositions(work, left, n, right, m, target),
+    }
+}
+
+// The same of the left list, of n zones in the slot at `base` after p rounds, and of what the right operand came to in the
+// slot after it, brought to `base`. The other words of the three slots from `base` on are free, and all of them where it
+// overflows.
+pub fn combine(
+    op: Join,
+    work: &mut [i32],
+    base: usize,
+    n: usize,
+    p: u64,
+    right: Evaluated,
+) -> Evaluated
+    requires { ⌜ (Ready (now work) base n) × (p ≤ most-rounds) × (Came Source (now work) (base + slot-words) right) ⌝ }
+    ensures value { λ r. ⌜ EvaluatedAs (Carried (λ B q v. v ≡ ended (joinList op (listAt (now (work .entry)) base n) B) (p + q)) (now (work .entry)) (base + slot-words) right) (now (work .exit)) base r ⌝ }
+    ensures kept { λ _. ⌜ Kept base (3 * slot-words) (now (work .entry)) (now (work .exit)) ⌝ }
+{
+    let Evaluated::Listed {
+        count: m,
+        rounds: q,
+    } = right
+    else {
+        return Evaluated::Overflow;
+    };
+    let target = base + TWO_SLOTS;
+    let Listed::Count(count) = build(op, work, base, n, base + SLOT_WORDS, m, target) else {
+        return Evaluated::Overflow;
+    };
+    list::bring(work, target, count, base);
+    let both = p + q;
+    Evaluated::Listed {
+        count,
+        rounds: both,
+    }
+}
+
+// The upper end of a range; a missing one is the length of ticks from..to, which no stretch exceeds.
+fn upper_end(hi: Upper, from: u32, to: u32) -> u32
+    requires { ⌜ from ≤ to ⌝ }
+    ensures { λ r. ⌜ most r ≡ longest from to hi ⌝ }
+{
+    match hi {
+        Upper::Endless => to - from,
+        Upper::UpTo(n) => n,
+    }
+}
+
+// The band of a range.
+fn range_band(range: Range, from: u32, to: u32) -> MaybeZone
+    requires { ⌜ (Ticks from to) × (Wrong range → ⊥) ⌝ }
+    ensures { λ r. ⌜ r ≡ rangeBand from to range ⌝ }
+{
+    let hi = range.hi;
+    let longest = Limit::most(upper_end(hi, from, to));
+    Zone::band(from, to, longest, Limit::least(range.lo))
+}
+
+// `{lo,hi}`: the meets of the list in the slot at `base` with the band, brought to `base`.
+fn banded(
+    work: &mut [i32],
+    base: usize,
+    n: usize,
+    range: Range,
+    from: u32,
+    to: u32,
+    rounds: u64,
+) -> Evaluated
+    requires { ⌜ (Ready (now work) base n) × (Ticks from to) × (Wrong range → ⊥) ⌝ }
+    ensures value { λ r. ⌜ EvaluatedAs (λ v. v ≡ ended (banded (rangeBand from to range) (listAt (now (work .entry)) base n)) rounds) (now (work .exit)) base r ⌝ }
+    ensures kept { λ _. ⌜ Kept base (3 * slot-words) (now (work .entry)) (now (work .exit)) ⌝ }
+{
+    let target = base + TWO_SLOTS;
+    let band = range_band(range, from, to);
+    let Listed::Count(count) = operators::band(work, base, n, band, base + SLOT_WORDS, target)
+    else {
+        return Evaluated::Overflow;
+    };
+    list::bring(work, target, count, base);
+    Evaluated::Listed { count, rounds }
+}
+
+// `*`: the rounds from the list in the slot at `base`, and then the diagonal, brought to `base`.
+fn star(work: &mut [i32], base: usize, n: usize, from: u32, to: u32, rounds: u64) -> Evaluated
+    requires { ⌜ (Ready (now work) base n) × (Ticks from to) × (rounds ≤ most-rounds) ⌝ }
+    ensures value { λ r. ⌜ EvaluatedAs (Closes from to (listAt (now (work .entry)) base n) rounds) (now (work .exit)) base r ⌝ }
+    ensures kept { λ _. ⌜ Kept base (3 * slot-words) (now (work .entry)) (now (work .exit)) ⌝ }
+{
+    let closed = base + SLOT_WORDS;
+    let Starred::Finished {
+        count,
+        rounds: made,
+    } = star::star(work, base, n, base + TWO_SLOTS, closed, from, to)
+    else {
+        return Evaluated::Overflow;
+    };
+    list::bring(work, closed, count, base);
+    let all = rounds + made;
+    Evaluated::Listed { count, rounds: all }
+}
+
+// The operators with one operand, on what it came to in the slot at `base`. The other words of the three slots from there
+// on are free, and all of them where it overflows.
+pub fn apply(
+    op: Unary,
+    operand: Evaluated,
+    work: &mut [i32],
+    base: usize,
+    from: u32,
+    to: u32,
+) -> Evaluated
+    requires { ⌜ (Came Ready (now work) base operand) × (Ticks from to) × (Right op) ⌝ }
+    ensures value { λ r. ⌜ EvaluatedAs (Carried (applied from to op) (now (work .entry)) base operand) (now (work .exit)) base r ⌝ }
+    ensures kept { λ _. ⌜ Kept base (3 * slot-words) (now (work .entry)) (now (work .exit)) ⌝ }
+{
+    let Evaluated::Listed { count: n, rounds } = operand else {
+        return Evaluated::Overflow;
+    };
+    match op {
+        Unary::Star => star(work, base, n, from, to, rounds),
+        Unary::Band(range) => banded(work, base, n, range, from, to, rounds),
+    }
+}
