@@ -370,7 +370,9 @@ fn depths() -> Vec<Case> {
         Case::on_r(left_nested(17)),
         // 255 bytes of joins.
         Case::on_r(left_nested(128)),
-        // A node for each of 63, 64 and 143 bytes, no deeper than 16.
+        // A node for each of 15, 16, 63, 64 and 143 bytes, no deeper than 16.
+        Case::on_r(broad(1)),
+        Case::on_r(format!("{}*", broad(1))),
         Case::on_r(broad(4)),
         Case::on_r(format!("{}*", broad(4))),
         Case::on_r(broad(9)),

@@ -16,6 +16,7 @@ pub mod drill;
 pub mod examples;
 pub mod finder;
 pub mod inputs;
+pub mod marks;
 pub mod proved;
 pub mod random;
 pub mod recording;

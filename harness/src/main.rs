@@ -7,7 +7,7 @@ use std::process::ExitCode;
 use std::time::Duration;
 
 use harness::campaign::Campaign;
-use harness::{bench, cases, recording::Recording, text};
+use harness::{bench, cases, marks, recording::Recording, text};
 
 const USAGE: &str = "\
 usage:
@@ -23,6 +23,8 @@ usage:
   harness cases [--write-input PATH] [--write-output PATH]
       the executed cases: their input, and the output that is expected of them (printed where no
       path is given)
+  harness marks PROGRAM
+      run the program `marks` on files at the edges of what it accepts
 
 Built with --features proved, campaign and bench also call the proved library.
 ";
@@ -53,6 +55,9 @@ enum Command<'a> {
         input: Option<&'a str>,
         output: Option<&'a str>,
     },
+    Marks {
+        program: &'a str,
+    },
     Help,
 }
 
@@ -69,6 +74,7 @@ fn command<'a>(words: &[&'a str]) -> Result<Command<'a>, String> {
         "campaign" => campaign_options(rest),
         "bench" => exactly([], rest).map(|[]| Command::Bench),
         "cases" => cases_options(rest),
+        "marks" => exactly(["PROGRAM"], rest).map(|[program]| Command::Marks { program }),
         "help" | "--help" | "-h" => return Ok(Command::Help),
         _ => return Err(format!("`{name}` is no command\n{USAGE}")),
     };
@@ -142,6 +148,7 @@ fn run(command: Command) -> Result<(), String> {
         Command::Campaign(campaign) => println!("{}", campaign.run()?),
         Command::Bench => bench::run()?,
         Command::Cases { input, output } => write_cases(input, output)?,
+        Command::Marks { program } => println!("{}", marks::run(program)?),
         Command::Help => print!("{USAGE}"),
     }
     Ok(())

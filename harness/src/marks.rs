@@ -1,0 +1,245 @@
+//! The program `marks`, run on files at the edges of what it accepts.
+//!
+//! What it must print is worked out from the whole files by the plain matcher: one final newline of
+//! the drill is dropped, and a file that is missing counts as empty. Every file that is too long has
+//! a front that would be accepted, so that a program that reads less of it gives itself away.
+
+use std::fs;
+use std::path::{Path, PathBuf};
+use std::process::{Command, Stdio};
+use std::time::{SystemTime, UNIX_EPOCH};
+
+use crate::drill::MAX_LENGTH as MAX_DRILL;
+use crate::examples::{recording, recording_r};
+use crate::finder::{find, WORK_WORDS};
+use crate::recording::{MAX_LENGTH, RECORD};
+use crate::sheet;
+use crate::zone::WORDS;
+use crate::zones::MAX_ZONES;
+
+/// Both files, where they are there, and the refusal that they must get, 0 for none.
+struct Case {
+    name: &'static str,
+    recording: Option<Vec<u8>>,
+    drill: Option<Vec<u8>>,
+    number: u32,
+}
+
+impl Case {
+    fn new(name: &'static str, recording: &[u8], drill: &[u8], number: u32) -> Case {
+        Case {
+            name,
+            recording: Some(recording.to_vec()),
+            drill: Some(drill.to_vec()),
+            number,
+        }
+    }
+
+    fn without_recording(self) -> Case {
+        Case {
+            recording: None,
+            ..self
+        }
+    }
+
+    fn without_drill(self) -> Case {
+        Case {
+            drill: None,
+            ..self
+        }
+    }
+
+    /// All that must be printed.
+    fn sheet(&self) -> Result<String, String> {
+        let recording = self.recording.as_deref().unwrap_or_default();
+        let drill = self.drill.as_deref().unwrap_or_default();
+        let drill = drill.strip_suffix(b"\n").unwrap_or(drill);
+        let mut answer = [0; MAX_ZONES * WORDS];
+        let returned = find(recording, drill, &mut answer, &mut [0; WORK_WORDS]);
+        if returned.number != self.number {
+            let (found, meant) = (returned.number, self.number);
+            return Err(format!("the plain matcher gives {found} and not {meant}"));
+        }
+        Ok(sheet::text(returned, &answer))
+    }
+
+    fn check(&self, program: &Path) -> Result<(), String> {
+        let expected = self.sheet()?;
+        let folder = Folder::new()?;
+        folder.write("drive.rec", self.recording.as_deref())?;
+        folder.write("drill.txt", self.drill.as_deref())?;
+        let printed = folder.run(program)?;
+        if printed != expected.as_bytes() {
+            let printed = String::from_utf8_lossy(&printed);
+            return Err(format!("expected\n{expected}but found\n{printed}"));
+        }
+        Ok(())
+    }
+}
+
+/// A folder of its own for each run, which goes away with it.
+struct Folder(PathBuf);
+
+impl Folder {
+    fn new() -> Result<Folder, String> {
+        let (process, now) = (std::process::id(), SystemTime::now());
+        let since = now
+            .duration_since(UNIX_EPOCH)
+            .map_or(0, |time| time.as_nanos());
+        let path = std::env::temp_dir().join(format!("marks-{process}-{since}"));
+        fs::create_dir(&path).map_err(|error| format!("{}: {error}", path.display()))?;
+        Ok(Folder(path))
+    }
+
+    fn write(&self, name: &str, bytes: Option<&[u8]>) -> Result<(), String> {
+        let Some(bytes) = bytes else {
+            return Ok(());
+        };
+        fs::write(self.0.join(name), bytes).map_err(|error| format!("{name}: {error}"))
+    }
+
+    /// What the program prints when it is started here.
+    fn run(&self, program: &Path) -> Result<Vec<u8>, String> {
+        let mut command = Command::new(program);
+        let command = command.current_dir(&self.0).stdin(Stdio::null());
+        let output = command
+            .output()
+            .map_err(|error| format!("{}: {error}", program.display()))?;
+        if !output.status.success() || !output.stderr.is_empty() {
+            let complaint = String::from_utf8_lossy(&output.stderr);
+            return Err(format!("{}\n{complaint}", output.status));
+        }
+        Ok(output.stdout)
+    }
+}
+
+impl Drop for Folder {
+    fn drop(&mut self) {
+        // A folder that stays behind does no harm.
+        let _ = fs::remove_dir_all(&self.0);
+    }
+}
+
+/// Runs the program on every case.
+pub fn run(program: &str) -> Result<String, String> {
+    let program = fs::canonicalize(program).map_err(|error| format!("{program}: {error}"))?;
+    let cases = all();
+    for case in &cases {
+        case.check(&program)
+            .map_err(|fault| format!("{}: {fault}", case.name))?;
+    }
+    Ok(format!("marks agrees on {} cases", cases.len()))
+}
+
+fn all() -> Vec<Case> {
+    let groups = [recordings(), drills(), newlines(), missing()];
+    groups.into_iter().flatten().collect()
+}
+
+/// Recordings at the edge of 32,768 bytes, and with a newline at their end, which is a byte as any
+/// other.
+fn recordings() -> Vec<Case> {
+    let long = one_change_too_many();
+    let with_newline = recording(100, 16, &[(20, 0x0A00)]);
+    let newline_more = [&recording_r()[..], b"\n"].concat();
+    vec![
+        Case::new("32,768 bytes", &long[..MAX_LENGTH], b"a", 0),
+        Case::new("32,769 bytes", &long[..MAX_LENGTH + 1], b"a", 1),
+        Case::new("32,776 bytes", &long, b"a", 1),
+        Case::new("a newline as the last byte", &with_newline, b"j&l", 0),
+        Case::new("a newline too many", &newline_more, b"a", 1),
+    ]
+}
+
+/// Right but for its length: the last change that a recording has room for switches a on, and one
+/// more follows.
+fn one_change_too_many() -> Vec<u8> {
+    let last = (MAX_LENGTH / RECORD - 1) as u32;
+    let changes: Vec<(u32, u16)> = (1..=last + 1)
+        .map(|k| (10 * k, (k == last).into()))
+        .collect();
+    recording(50_000, 1, &changes)
+}
+
+/// Drills at the edge of 255 bytes.
+fn drills() -> Vec<Case> {
+    let with = |name, drill: Vec<u8>, behind: &[u8], number| {
+        let drill = [&drill[..], behind].concat();
+        Case::new(name, &recording_r(), &drill, number)
+    };
+    let longest = || bracketed("a");
+    vec![
+        with("255 bytes", longest(), b"", 0),
+        with("255 bytes and a newline", longest(), b"\n", 0),
+        with("255 bytes and two newlines", longest(), b"\n\n", 4),
+        with("255 bytes, a newline and a byte", longest(), b"\n*", 4),
+        with("255 bytes and many newlines", longest(), &[b'\n'; 999], 4),
+        with("256 bytes", longest(), b"*", 4),
+        with("256 bytes and a newline", longest(), b"*\n", 4),
+        with("256 bytes and two newlines", longest(), b"*\n\n", 4),
+        with("257 bytes", longest(), b"**", 4),
+        with("254 bytes and two newlines", bracketed("_*"), b"\n\n", 5),
+    ]
+}
+
+/// A drill in as many brackets as the longest has room for.
+fn bracketed(inner: &str) -> Vec<u8> {
+    let brackets = (MAX_DRILL - inner.len()) / 2;
+    let drill = format!("{}{inner}{}", "(".repeat(brackets), ")".repeat(brackets));
+    drill.into_bytes()
+}
+
+/// One final newline is dropped, and nothing else.
+fn newlines() -> Vec<Case> {
+    let on_r =
+        |name, drill: &str, number| Case::new(name, &recording_r(), drill.as_bytes(), number);
+    vec![
+        on_r("no newline", "(a{2,2})*", 0),
+        on_r("a newline", "(a{2,2})*\n", 0),
+        on_r("two newlines", "(a{2,2})*\n\n", 5),
+        on_r("a newline in front", "\na", 5),
+        on_r("a newline inside", "a\n.a", 5),
+        on_r("a carriage return and a newline", "a\r\n", 5),
+        on_r("nothing", "", 4),
+        on_r("a newline alone", "\n", 4),
+        on_r("two newlines alone", "\n\n", 5),
+    ]
+}
+
+/// A file that is missing counts as empty.
+fn missing() -> Vec<Case> {
+    let on_r = |name, number| Case::new(name, &recording_r(), b"a", number);
+    vec![
+        on_r("no drive.rec", 1).without_recording(),
+        on_r("no drill.txt", 4).without_drill(),
+        on_r("neither file", 1).without_recording().without_drill(),
+        Case::new("an empty drive.rec", b"", b"a", 1),
+        Case::new("no drive.rec, a wrong drill", b"", b"(", 1).without_recording(),
+        Case::new("a wrong drive.rec, no drill.txt", &[0; RECORD], b"", 2).without_drill(),
+    ]
+}
+
+#[cfg(test)]
+mod tests {
+    use super::*;
+
+    #[test]
+    fn every_case_has_its_number() {
+        for case in all() {
+            assert_eq!(case.sheet().err(), None, "{}", case.name);
+        }
+    }
+
+    #[test]
+    fn what_is_too_long_has_a_front_that_is_accepted() {
+        let long = one_change_too_many();
+        assert_eq!(long.len(), MAX_LENGTH + RECORD);
+        assert_eq!(bracketed("a").len(), MAX_DRILL);
+        assert_eq!(bracketed("_*").len(), MAX_DRILL - 1);
+        let sheet = Case::new("", &long[..MAX_LENGTH], b"a", 0).sheet();
+        let expected = "zones 1 rounds 0\nstart [4095,5000) end (4095,5000] length (0,905]\n";
+        assert_eq!(sheet.as_deref(), Ok(expected));
+        // Were the last change read, it would end the run.
+        assert_eq!(long[MAX_LENGTH..][..2], [0x43, 0x48]);
+    }
+}
