@@ -11,7 +11,8 @@ use Rattle.zone.specs.declared.Zone.{Zone}
 use Rattle.words.specs.Words.{zone-words, word, codes}
 use Rattle.words.proofs.Words.{zone-of-codes}
 use Rattle.list.specs.Slots.{listAt}
-use Rattle.finder.specs.Outcome.{words, fronted, frontOf}
+use Rattle.delivery.specs.Buffers.{words, fronted}
+use Rattle.finder.specs.Outcome.{frontOf}
 
 -- Six words a zone.
 pub words-length : (L : List Zone) → length (words L) ≡ length L * zone-words

@@ -1,16 +1,10 @@
 -- From what the steps of a call answer to the whole call.
-use mathlib.Core.Path.{_≡_, refl, ap, subst, _∙_}
-use mathlib.Core.Bool.{Bool, true, false, cond}
+use mathlib.Core.Path.{_≡_, refl, ap, subst}
 use mathlib.Core.List.{List, _++_}
-use Prim.Native.Nat.{ℕ, _*_, _≤_, _<_}
+use Prim.Native.Nat.{ℕ, _<_}
 use native.Mathlib.Omega.{arith}
-use borrow.Author.Tests.{leb-true, leb-false}
-use lib.Dec.{leb}
 use lib.IntN.{ℤ}
 use lib.ListN.{length}
-use Rattle.zone.specs.declared.Zone.{Zone}
-use Rattle.words.specs.Words.{zone-words}
-use Rattle.list.specs.Slots.{Kept, listAt}
 use Rattle.recording.specs.Reading.{channels, ReadAs, ReadingAs}
 use Rattle.recording.specs.Levels.{Shows}
 use Rattle.recording.specs.declared.Dimensions.{Dimensions}
@@ -18,16 +12,13 @@ use Rattle.recording.specs.declared.Reading.the-variants.{Recorded}
 use Rattle.recording.proofs.Refusals.{read-numbers, read-end}
 use Rattle.expression.specs.Expression.{Expression}
 use Rattle.expression.specs.Refusal.{Accepted, Refused}
-use Rattle.values.specs.declared.Evaluated.{Evaluated}
-use Rattle.values.specs.declared.Evaluated.the-variants.{Listed, Overflow}
 use Rattle.meaning.specs.Lists.{Value, value, overflow, Evaluates}
-use Rattle.values.specs.Values.{EvaluatedAs}
-use Rattle.finder.specs.declared.Worked.{Worked}
-use Rattle.finder.specs.declared.Worked.the-variants.{WorkShort, Overflow, AnswerShort, Finished}
-use Rattle.finder.specs.Outcome.{Outcome, Finished, largest, room, words, fronted, cleared, both, leaves, returned, Comes, CallAs, FindAs}
+use Rattle.delivery.specs.declared.Worked.{Worked}
+use Rattle.delivery.specs.declared.Worked.the-variants.{WorkShort, Overflow, AnswerShort, Finished}
+use Rattle.finder.specs.Outcome.{Outcome, Finished, largest, both, leaves, returned, Comes, CallAs, FindAs}
 use Rattle.finder.specs.Demands.{Demand1, Demand2, Demand3}
-use Rattle.finder.specs.Steps.{InFront, comesTo, answerAfter, WorkedAs, outcomeOf}
-use Rattle.finder.proofs.Buffers.{cleared-kept}
+use Rattle.delivery.specs.Working.{WorkedAs}
+use Rattle.finder.specs.Steps.{outcomeOf}
 use Rattle.finder.proofs.Demands.{demand-1, demand-2, demand-3}
 use Rattle.finder.proofs.Outcomes.{Without, recordings, drills, recording-call, drill-call, drill-none, work-call, overflow-call, answer-call, accepted-call}
 
@@ -41,37 +32,6 @@ pub untouched : {bytes text : List ℕ} {answer work : List ℤ} {o : Outcome} �
     → FindAs bytes text answer work o answer work
 untouched {bytes} {text} {answer} {work} {o} e c =
     record { outcome = c; buffers = rw e (record { answer-kept = refl; work-kept = refl }) }
-
--- ---- a stored drill
-
--- An evaluated list stands at the front of the work buffer.
-pub in-front : (comes : Value → Type 0) (r : Evaluated) (ws : List ℤ) → room ≤ length ws → EvaluatedAs comes ws 0 r → InFront r (length ws)
-in-front comes (Listed count rounds) ws enough h = omega (arith, h .holds .few)
-in-front comes Overflow ws enough h = tt
-
--- The evaluator's answer, delivered where there is room for it, and the work buffer cleared: what the evaluator wrote is among the words that are cleared.
-pub worked : (comes : Value → Type 0) {size : ℕ} (r : Evaluated) (answer : List ℤ) {work ws answer′ work′ : List ℤ} {w : Worked} → room ≤ length work → size ≤ room
-    → EvaluatedAs comes ws 0 r → Kept 0 size work ws → w ≡ comesTo r (length answer) → answer′ ≡ answerAfter r ws answer → work′ ≡ cleared ws
-    → WorkedAs comes w answer work answer′ work′
-worked comes Overflow answer enough few h k e f g = rw e (enough, h, record { answer-kept = f; work-cleared = g ∙ cleared-kept k few })
-worked comes (Listed count rounds) answer {work} {ws} {answer′} {work′} enough few h k e f g = rw e (at (leb (count * zone-words) (length answer)) refl f)
-  where
-    at : (b : Bool) → leb (count * zone-words) (length answer) ≡ b → answer′ ≡ cond b (fronted (words (listAt ws 0 count)) answer) answer
-        → WorkedAs comes (cond b (Finished count rounds) AnswerShort) answer work answer′ work′
-    at true t q = (
-      enough,
-      leb-true (count * zone-words) (length answer) t,
-      record {
-        finishes = record { list = h .list; means = h .means; count = h .holds .count };
-        answer-filled = q ∙ ap (λ (L : List Zone). fronted (words L) answer) (h .holds .zones);
-        work-cleared = g ∙ cleared-kept k few;
-      },
-    )
-    at false t q = (
-      enough,
-      (h .list, rounds, h .means, omega (arith, leb-false (count * zone-words) (length answer) t, h .holds .count)),
-      record { answer-kept = q; work-cleared = g ∙ cleared-kept k few },
-    )
 
 -- ---- on a recording that was read
 

@@ -6,6 +6,5 @@ pub mod Answered
 pub mod Calls
 pub mod Sizes
 pub mod Demands
-pub mod Buffers
 pub mod Finding
 pub mod Longer

@@ -1,20 +1,20 @@
 -- "Turned back": what each outcome returns and leaves, which one a call of `find` has, and what both buffers hold afterwards.
 use mathlib.Core.Path.{_≡_}
 use mathlib.Core.Bool.{cond}
-use mathlib.Core.List.{List, [], _∷_, _++_}
+use mathlib.Core.List.{List, [], _∷_}
 use Prim.Native.Nat.{ℕ, _*_, _<_}
 use lib.Dec.{leb}
-use lib.IntN.{ℤ, pos}
-use lib.ListN.{length, take, drop, replicate}
-use Rattle.zone.specs.declared.Zone.{Zone}
-use Rattle.words.specs.Words.{zone-words, codes}
+use lib.IntN.{ℤ}
+use lib.ListN.{length, take}
+use Rattle.words.specs.Words.{zone-words}
 use Rattle.recording.specs.Reading.{ticks, channels, RecordingCause}
 use Rattle.recording.specs.Levels.{Shows}
 use Rattle.expression.specs.Expression.{Expression}
 use Rattle.expression.specs.Grammar.{Form, alternative}
 use Rattle.expression.specs.Refusal.{DrillCause}
-use Rattle.meaning.specs.Lists.{Value, value, overflow, Evaluates}
+use Rattle.meaning.specs.Lists.{Value, overflow, Evaluates}
 use Rattle.finder.specs.Causes as calls
+pub use Rattle.delivery.specs.Buffers.{room, NoRoom, Finishes, words, fronted, zeroed, cleared, BothKept, AnswerKept, Delivered}
 pub use Rattle.finder.specs.declared.Returned.{Returned}
 pub use Rattle.finder.specs.declared.Outcome.{Outcome}
 pub use Rattle.finder.specs.declared.Outcome.the-variants.{
@@ -81,16 +81,9 @@ pub record Comes (bytes text : List ℕ) (v : Value) : Type 0 where
   pub form : Form alternative text drill
   pub evaluates : Evaluates (Shows bytes) 0 (ticks bytes) drill v
 
--- a recording has at most so many bytes, and the finder needs so many work words
+-- a recording has at most so many bytes
 abbrev pub largest : ℕ
 largest = 32768
-
-abbrev pub room : ℕ
-room = 16384
-
--- of a drill that comes to a list: so many answer words are too few for it
-abbrev pub NoRoom : (comes : Value → Type 0) (answer : ℕ) → Type 0
-NoRoom comes answer = (L : List Zone) × (r : ℕ) × comes (value L r) × (answer < length L * zone-words)
 
 -- the cause of each refusal, of the bytes of the recording, the text of the drill and the lengths of both buffers
 abbrev pub Cause : (bytes text : List ℕ) (answer work : ℕ) → Outcome → Type 0
@@ -117,12 +110,6 @@ abbrev pub refusals : List Outcome
 refusals =
     RecordingLength ∷ RecordingHead ∷ RecordingChange ∷ DrillLength ∷ DrillForm ∷ DrillLetter ∷ DrillRange ∷ DrillDepth ∷ WorkShort ∷ Overflow ∷ AnswerShort ∷ []
 
--- "it then returns .. the number of zones and the total of rounds": those of the list to which the drill comes
-pub record Finishes (comes : Value → Type 0) (zones rounds : ℕ) : Type 0 where
-  pub list : List Zone
-  pub means : comes (value list rounds)
-  pub count : length list ≡ zones
-
 -- ---- which outcome a call of `find` has: the first cause of its list, or no cause and the finished list
 
 abbrev pub First : (bytes text : List ℕ) (answer work : ℕ) → Outcome → Type 0
@@ -135,39 +122,6 @@ abbrev pub CallAs : (bytes text : List ℕ) (answer work : ℕ) → Outcome → 
 CallAs bytes text answer work = calls.CallAs refusals (Cause bytes text answer work) (Finishes (Comes bytes text))
 
 -- ---- what both buffers hold afterwards
-
--- the words of the listed zones, six a zone
-unfoldable pub words : List Zone → List ℤ
-words [] = []
-words (z ∷ L) = codes z ++ words L
-
--- a buffer whose first words are vs, and "later ones untouched"
-unfoldable pub fronted : List ℤ → List ℤ → List ℤ
-fronted vs ws = vs ++ drop (length vs) ws
-
--- one whose first n words are zero
-unfoldable pub zeroed : ℕ → List ℤ → List ℤ
-zeroed n ws = fronted (replicate n (pos 0)) ws
-
--- "the first 16,384 work words are zero, later ones untouched"
-abbrev pub cleared : List ℤ → List ℤ
-cleared ws = zeroed room ws
-
--- both buffers are as they were ..
-pub record BothKept (answer work answer′ work′ : List ℤ) : Type 0 where
-  pub answer-kept : answer′ ≡ answer
-  pub work-kept : work′ ≡ work
-
--- .. or the answer buffer; "After 10, 11 or acceptance the first 16,384 work words are zero, later ones untouched"
-pub record AnswerKept (answer work answer′ work′ : List ℤ) : Type 0 where
-  pub answer-kept : answer′ ≡ answer
-  pub work-cleared : work′ ≡ cleared work
-
--- accepted: the listed zones stand in front of the answer buffer, and "Words after the front are untouched"
-pub record Delivered (comes : Value → Type 0) (zones rounds : ℕ) (answer work answer′ work′ : List ℤ) : Type 0 where
-  pub finishes : Finishes comes zones rounds
-  pub answer-filled : answer′ ≡ fronted (words (finishes .list)) answer
-  pub work-cleared : work′ ≡ cleared work
 
 -- what a call leaves, by the column
 abbrev pub LeftAs : (comes : Value → Type 0) → Returned → Left → (answer work answer′ work′ : List ℤ) → Type 0

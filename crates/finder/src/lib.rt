@@ -2,29 +2,25 @@
 // number, zones and rounds, and `front` gives back the words of the listed zones.
 //
 // specs/Demands.antt is the page to read: the three demands, one clause each in the contract of `find`. specs/Outcome.antt has what each outcome
-// returns and leaves, the causes of a refusal and both buffers; specs/Causes.antt which cause of a list is the first. proofs/Demands.antt proves
-// the demands of every call that has the defined outcome.
-use evaluation::Window;
+// returns and leaves and the causes of a refusal, with specs/Buffers.antt of `delivery` for what the buffers hold; specs/Causes.antt which cause of a
+// list is the first. proofs/Demands.antt proves the demands of every call that has the defined outcome.
+use delivery::Worked;
 use parser::Parsed;
 use recording::Dimensions;
 use recording::Reading;
-use values::Evaluated;
 ghost use mathlib.Core.Path.{_≡_};
 ghost use Prim.Native.Nat.{_*_, _≤_, min};
 ghost use lib.ListN.{length};
-ghost use Rattle.words.specs.Words.{zone-words};
-ghost use Rattle.list.specs.Slots.{listAt};
 ghost use Rattle.recording.specs.declared.Reading.the-variants.{Recorded};
-ghost use Rattle.recording.specs.Reading.{ReadAs, ReadingAs};
-ghost use Rattle.finder.specs.Outcome.{largest, room, words, fronted, cleared, frontOf, FindAs, refusal, returned};
+ghost use Rattle.recording.specs.Reading.{ReadingAs};
+ghost use Rattle.finder.specs.Outcome.{largest, frontOf, FindAs, refusal, returned};
 ghost use Rattle.finder.specs.Demands.{Demand1, Demand2, Demand3};
-ghost use Rattle.evaluation.specs.Evaluating.{Rooted};
-ghost use Rattle.finder.specs.Steps.{InFront, comesTo, answerAfter, Works, outcomeOf};
+ghost use Rattle.finder.specs.Steps.{outcomeOf};
 
 // The bytes of the largest recording, and the work words that a call needs.
 pub const LARGEST: usize = 32_768;
 
-pub const WORK_WORDS: usize = 16_384;
+pub const WORK_WORDS: usize = delivery::WORK_WORDS;
 
 // What a call comes to: a finished list, or the refusal whose cause holds and no earlier one does.
 pub enum Outcome {
@@ -47,83 +43,6 @@ pub struct Returned {
     pub number: u32,
     pub zones: usize,
     pub rounds: u64,
-}
-
-// What a stored drill comes to, with the lent buffers: the refusals 9 to 11, or its finished list.
-enum Worked {
-    WorkShort,
-    Overflow,
-    AnswerShort,
-    Finished { zones: usize, rounds: u64 },
-}
-
-// Zeroes the work words that a call may have used.
-fn clear(work: &mut [i32])
-    requires { ⌜ room ≤ length (now work) ⌝ }
-    ensures { λ _. ⌜ now (work .exit) ≡ cleared (now (work .entry)) ⌝ }
-{
-    let mut i = 0;
-    while i < WORK_WORDS {
-        work[i] = 0;
-        i += 1;
-    }
-}
-
-// Copies the words of the first slot's zones to the front of the answer.
-fn fill(work: &[i32], answer: &mut [i32], count: usize)
-    requires { ⌜ (count * zone-words ≤ length (now work)) × (count * zone-words ≤ length (now answer)) ⌝ }
-    ensures { λ _. ⌜ now (answer .exit) ≡ fronted (words (listAt (now (work .entry)) 0 count)) (now (answer .entry)) ⌝ }
-{
-    let n = count * words::ZONE_WORDS;
-    let mut i = 0;
-    while i < n {
-        answer[i] = work[i];
-        i += 1;
-    }
-}
-
-// The evaluated list in front of the answer, where that has room for it.
-fn deliver(evaluated: Evaluated, work: &[i32], answer: &mut [i32]) -> Worked
-    requires { ⌜ InFront evaluated (length (now work)) ⌝ }
-    ensures { λ r. ⌜ (r ≡ comesTo evaluated (length (now (answer .entry)))) × (now (answer .exit) ≡ answerAfter evaluated (now (work .entry)) (now (answer .entry))) ⌝ }
-{
-    let Evaluated::Listed { count, rounds } = evaluated else {
-        return Worked::Overflow;
-    };
-    if answer.len() / words::ZONE_WORDS < count {
-        return Worked::AnswerShort;
-    }
-    fill(work, answer, count);
-    Worked::Finished {
-        zones: count,
-        rounds,
-    }
-}
-
-// A stored drill worked out: its list evaluated in the work buffer and delivered, and the work buffer cleared.
-fn work_out(
-    bytes: &[u8],
-    size: Dimensions,
-    nodes: &[u32],
-    root: u32,
-    answer: &mut [i32],
-    work: &mut [i32],
-) -> Worked
-    requires { ⌜ (ReadAs (now bytes) size) × (Rooted (now nodes) (size .channels) root 16) ⌝ }
-    ensures { λ r. ⌜ Works (now (bytes .entry)) (now (nodes .entry)) size root r (now (answer .entry)) (now (work .entry)) (now (answer .exit)) (now (work .exit)) ⌝ }
-{
-    if work.len() < WORK_WORDS {
-        return Worked::WorkShort;
-    }
-    let whole = Window {
-        size,
-        from: 0,
-        to: size.ticks,
-    };
-    let evaluated = evaluation::evaluate(bytes, whole, nodes, root, work, 0, 16);
-    let worked = deliver(evaluated, work, answer);
-    clear(work);
-    worked
 }
 
 // The outcome of a call whose drill was worked out.
@@ -151,7 +70,14 @@ fn read_into(
     ensures { λ o. ⌜ FindAs (now (bytes .entry)) (now (drill .entry)) (now (answer .entry)) (now (work .entry)) o (now (answer .exit)) (now (work .exit)) ⌝ }
 {
     match parser::parse(drill, size.channels as usize, nodes) {
-        Parsed::Root(root) => outcome_of(work_out(bytes, size, nodes, root, answer, work)),
+        Parsed::Root(root) => outcome_of(delivery::work_out(
+            bytes,
+            size,
+            nodes,
+            root,
+            answer,
+            work,
+        )),
         Parsed::WrongLength => Outcome::DrillLength,
         Parsed::NoForm => Outcome::DrillForm,
         Parsed::WrongLetter => Outcome::DrillLetter,

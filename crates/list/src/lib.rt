@@ -2,7 +2,7 @@
 // copied from slot to slot.
 //
 // specs/ has a definition for each, over plain lists of zones; specs/Slots.antt says how a slot holds a list.
-use words::Nesting;
+use nesting::Nesting;
 use words::ZONE_WORDS;
 use zone::Zone;
 ghost use mathlib.Core.Path.{_≡_};
@@ -82,7 +82,7 @@ fn look_over(words: &[i32], base: usize, count: usize, w: &[i32; ZONE_WORDS]) ->
     let mut seen = Look::Apart;
     let mut i = 0;
     while i < count {
-        match words::nested(w, 0, words, base + i * ZONE_WORDS) {
+        match nesting::nested(w, 0, words, base + i * ZONE_WORDS) {
             Nesting::Inside => {
                 return Look::Held;
             }
@@ -107,7 +107,7 @@ fn keep_outside(
     requires { ⌜ (kept ≤ i) × (i < capacity) × (Free (now words) base) ⌝ }
     ensures { λ r. ⌜ KeepsAs (contains (zoneAt (now (w .entry)) 0) (zoneAt (now (words .entry)) (base + i * zone-words))) (base + i * zone-words) base kept (now (words .entry)) (now (words .exit)) r ⌝ }
 {
-    if words::included(words, base + i * ZONE_WORDS, w, 0) {
+    if nesting::included(words, base + i * ZONE_WORDS, w, 0) {
         return kept;
     }
     if kept == i {

@@ -1,54 +1,19 @@
 -- From what the buffers hold of two files to the files: longer ones are refused for their length, and so are their first bytes.
-use mathlib.Core.Path.{_≡_, refl, sym, ap, subst, _∙_}
-use mathlib.Core.Bool.{Bool, true, false, cond}
+use mathlib.Core.Path.{_≡_, sym, ap, subst, _∙_}
 use mathlib.Core.Logic.{inl, inr, ⊎-elim}
 use mathlib.Core.List.{List}
-use Prim.Native.Nat.{ℕ, suc, _-_, _≤_, _<_}
+use Prim.Native.Nat.{ℕ, suc, _≤_, _<_}
 use native.Mathlib.Decide.{decLe}
 use native.Mathlib.Omega.{arith}
-use borrow.Author.Tests.{eq-eqb, ne-eqb}
-use lib.Dec.{eqb}
 use lib.IntN.{ℤ}
-use lib.ListN.{length, getD, take, length-take}
-use lib.Seq.{length-take-le, take-all, take-take, getD-take}
+use lib.ListN.{length, take, length-take}
+use lib.Seq.{take-all, take-take}
 use Rattle.finder.specs.declared.Outcome.{Outcome}
 use Rattle.finder.specs.Outcome.{largest, FindAs}
 use Rattle.finder.proofs.Longer.{Alike, longer}
-use Rattle.marks.specs.Marks.{HoldsFile, trimmed}
-
--- ---- the drill without its final newline
-
--- at most one byte is dropped
-trimmed-length : (text : List ℕ) → length text ≤ suc (length (trimmed text))
-unfolding trimmed
-trimmed-length text = go (eqb (getD text (length text - 1) 0) 10)
-  where
-    go : (t : Bool) → length text ≤ suc (length (cond t (take (length text - 1) text) text))
-    go true = omega (arith, length-take (length text - 1) text)
-    go false = omega arith
-
--- .. of the first n bytes of a buffer
-module _ (buffer : List ℕ) (n : ℕ) (fits : n ≤ length buffer) where
-  counted : length (take n buffer) ≡ n
-  counted = length-take-le n buffer fits
-
-  pub empty : n ≡ 0 → take 0 buffer ≡ trimmed (take n buffer)
-  unfolding trimmed
-  empty e = rw e refl
-
-  module _ (some : n ≡ 0 → ⊥) where
-    last : getD (take n buffer) (length (take n buffer) - 1) 0 ≡ getD buffer (n - 1) 0
-    last = rw counted (getD-take n buffer (n - 1) 0 (omega arith))
-
-    pub ended : getD buffer (n - 1) 0 ≡ 10 → take (n - 1) buffer ≡ trimmed (take n buffer)
-    unfolding trimmed
-    ended e = rw (eq-eqb _ 10 (last ∙ e), counted, take-take (n - 1) n buffer (omega arith))
-
-    pub whole : (getD buffer (n - 1) 0 ≡ 10 → ⊥) → take n buffer ≡ trimmed (take n buffer)
-    unfolding trimmed
-    whole d = rw (ne-eqb _ 10 (λ e. d (sym last ∙ e)))
-
--- ---- the files
+use Rattle.files.specs.Files.{trimmed}
+use Rattle.files.proofs.Trimmed.{trimmed-length}
+use Rattle.marks.specs.Marks.{HoldsFile, MarkedAs, Marks}
 
 -- what was read may itself be the file, so that `mark` promises something of every two buffers
 pub itself : {n : ℕ} {buffer : List ℕ} → n ≤ length buffer → HoldsFile buffer n (take n buffer)
@@ -71,3 +36,10 @@ pub on-files : {recording drill drive text said : List ℕ} {n m : ℕ} {answer 
     → FindAs drive (trimmed text) answer work o answer′ work′
 on-files {recording} {n = n} {answer = answer} {work} {answer′} {work′} {o} long wide e call h d =
     longer (held long h) (held-trimmed (held wide d)) (subst (λ (t : List ℕ). FindAs (take n recording) t answer work o answer′ work′) e call)
+
+-- What such calls print is what is printed for the files.
+pub of-files : {recording drill said printed : List ℕ} {n m : ℕ} {Q : Type 0} {answer work answer′ work′ : List ℤ} {o : Outcome} → largest < length recording → 256 < length drill
+    → said ≡ trimmed (take m drill) → FindAs (take n recording) said answer work o answer′ work′
+    → ((bytes text : List ℕ) → FindAs bytes text answer work o answer′ work′ → MarkedAs bytes text printed × Q)
+    → Marks recording n drill m printed × Q
+of-files long wide e call prints = (λ drive text h d. prints drive (trimmed text) (on-files long wide e call h d) .0, prints _ _ call .1)

@@ -1,25 +1,20 @@
 -- What `marks` prints for two files.
 use mathlib.Core.Path.{_≡_}
-use mathlib.Core.Bool.{cond}
 use mathlib.Core.List.{List}
-use Prim.Native.Nat.{ℕ, _-_, _*_, min}
-use lib.Dec.{eqb}
+use Prim.Native.Nat.{ℕ, _*_, min}
 use lib.IntN.{ℤ, pos}
-use lib.ListN.{length, getD, take, replicate}
+use lib.ListN.{length, take, replicate}
 use Rattle.words.specs.Words.{zone-words}
 use Rattle.list.specs.Insert.{capacity}
 use Rattle.finder.specs.declared.Outcome.{Outcome}
 use Rattle.finder.specs.Outcome.{returned, room, frontOf, FindAs}
 use Rattle.sheet.specs.Sheet.{sheet}
+use Rattle.files.specs.Files.{trimmed}
 
 -- the first n bytes of a buffer are those of a file: all that the file has, or as many as the buffer has room for
 pub record HoldsFile (buffer : List ℕ) (n : ℕ) (file : List ℕ) : Type 0 where
   pub count : n ≡ min (length file) (length buffer)
   pub bytes : take n buffer ≡ take n file
-
--- "one final newline is dropped"
-unfoldable pub trimmed : List ℕ → List ℕ
-trimmed text = cond (eqb (getD text (length text - 1) 0) 10) (take (length text - 1) text) text
 
 -- the answer words that are lent: those of a list that is full
 abbrev pub answer-words : ℕ

@@ -1,4 +1,2 @@
 pub mod Words
 pub mod Signed
-pub mod Steps
-pub mod Nestings

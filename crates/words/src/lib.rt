@@ -1,5 +1,4 @@
-// Zones in the words of a lent buffer: six words a zone, each the word of a limit. Reading, writing, copying, and how one zone
-// lies to another, of their words alone.
+// Zones in the words of a lent buffer: six words a zone, each the word of a limit. Reading, writing and copying.
 //
 // specs/Words.antt says which zone stands where; proofs/Words.antt has the laws that crates above cite.
 use limit::Limit;
@@ -8,20 +7,12 @@ ghost use mathlib.Core.Path.{_≡_};
 ghost use mathlib.Core.List.{[], _∷_};
 ghost use Prim.Native.Nat.{_+_, _≤_, _<_};
 ghost use lib.ListN.{length};
-ghost use Rattle.limit.specs.Limit.{at-most, most-ticks, decode};
-ghost use Rattle.zone.specs.Zone.{contains, Ranged, Contains};
+ghost use Rattle.limit.specs.Limit.{most-ticks, decode};
+ghost use Rattle.zone.specs.Zone.{Ranged};
 ghost use Rattle.words.specs.Words.{zone-words, word, codes, zoneAt, overwrite};
-ghost use Rattle.words.specs.Nesting.{nesting, Nests};
 
 // The words of a zone.
 pub const ZONE_WORDS: usize = 6;
-
-// How one zone lies to another: inside it (or the same), around it, or neither.
-pub enum Nesting {
-    Inside,
-    Around,
-    Apart,
-}
 
 fn limit_at(words: &[i32], at: usize) -> Limit
     requires { ⌜ at < length (now words) ⌝ }
@@ -109,60 +100,4 @@ pub fn move_zone(words: &mut [i32], from: usize, to: usize)
     let l = words[from + 4];
     let nl = words[from + 5];
     write_words(words, to, s, ns, e, ne, l, nl);
-}
-
-// Whether the limit of one word is at most that of another: the order of words is that of limits, so nothing is decoded.
-fn word_at_most(inner: &[i32], i: usize, outer: &[i32], j: usize) -> bool
-    requires { ⌜ (i < length (now inner)) × (j < length (now outer)) ⌝ }
-    ensures { λ r. ⌜ r ≡ at-most (decode (word (now (inner .entry)) i)) (decode (word (now (outer .entry)) j)) ⌝ }
-{
-    inner[i] <= outer[j]
-}
-
-// Whether the tight zone whose words stand from `i` on in `inner` lies inside the one from `j` on in `outer`. The starts
-// mostly settle it. The other four limits are compared in one go.
-pub fn included(inner: &[i32], i: usize, outer: &[i32], j: usize) -> bool
-    requires { ⌜ (i + zone-words ≤ length (now inner)) × (j + zone-words ≤ length (now outer)) ⌝ }
-    ensures value { λ r. ⌜ r ≡ contains (zoneAt (now (outer .entry)) j) (zoneAt (now (inner .entry)) i) ⌝ }
-    ensures meaning { λ r. ⌜ Contains (zoneAt (now (outer .entry)) j) (zoneAt (now (inner .entry)) i) r ⌝ }
-{
-    if !word_at_most(inner, i, outer, j) {
-        return false;
-    }
-    if !word_at_most(inner, i + 1, outer, j + 1) {
-        return false;
-    }
-    word_at_most(inner, i + 2, outer, j + 2)
-        & word_at_most(inner, i + 3, outer, j + 3)
-        & word_at_most(inner, i + 4, outer, j + 4)
-        & word_at_most(inner, i + 5, outer, j + 5)
-}
-
-// How the tight zone whose words stand from `i` on in `a` lies to the one from `j` on in `b`. The one whose starts have the
-// higher upper limit cannot lie inside the other, so this way is not asked. Whether it is the one in `a` is asked first:
-// zones are mostly put in rising time, and `a` has the new one.
-pub fn nested(a: &[i32], i: usize, b: &[i32], j: usize) -> Nesting
-    requires { ⌜ (i + zone-words ≤ length (now a)) × (j + zone-words ≤ length (now b)) ⌝ }
-    ensures value { λ r. ⌜ r ≡ nesting (zoneAt (now (a .entry)) i) (zoneAt (now (b .entry)) j) ⌝ }
-    ensures meaning { λ r. ⌜ Nests (zoneAt (now (a .entry)) i) (zoneAt (now (b .entry)) j) r ⌝ }
-{
-    if !word_at_most(a, i, b, j) {
-        if included(b, j, a, i) {
-            return Nesting::Around;
-        }
-        return Nesting::Apart;
-    }
-    if !word_at_most(b, j, a, i) {
-        if included(a, i, b, j) {
-            return Nesting::Inside;
-        }
-        return Nesting::Apart;
-    }
-    if included(a, i, b, j) {
-        return Nesting::Inside;
-    }
-    if included(b, j, a, i) {
-        return Nesting::Around;
-    }
-    Nesting::Apart
 }

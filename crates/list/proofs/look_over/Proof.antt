@@ -4,7 +4,7 @@ use mathlib.Core.Logic.{⊎-elim}
 use Prim.Native.Nat.{_-_, _≤_}
 use native.Mathlib.Omega.{arith}
 use Rattle.words.specs.Words.{zoneAt}
-use Rattle.words.proofs.Nestings.{nesting-inside, nesting-around}
+use Rattle.nesting.proofs.Nestings.{nesting-inside, nesting-around}
 use Rattle.list.specs.Steps.{LookAs}
 use Rattle.list.proofs.Scan.{none-seen, held-here, look-on}
 use borrow.Author.Needs.{needs}

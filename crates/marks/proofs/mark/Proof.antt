@@ -1,7 +1,7 @@
 -- The text fits, and it is the sheet of the call; and a call on what was read is a call on the files.
 use mathlib.Core.Path.{sym, _∙_}
 use native.Mathlib.Omega.{arith}
-use Rattle.marks.proofs.Files.{on-files}
+use Rattle.marks.proofs.Files.{of-files}
 use Rattle.marks.proofs.Printing.{prints}
 use borrow.Author.Needs.{needs}
 use Rattle.marks.proofs.mark.Statement.{statement}
@@ -9,10 +9,9 @@ use Rattle.marks.proofs.mark.Tie as tie
 
 returns : tie.Need-returns
 returns c =
-    let call = c .before .before .before .before .before .before .before .before .before .before .find .ensures .0 .defined in (
-      λ drive text h d. prints (on-files (omega arith) (omega arith) (c .before .before .before .before .before .before .before .before .before .before .before .before .before .before .before .drill-length .ensures .0) call h d) _ _ _ (c .before .before .before .before .before .before .before .returned .ensures) (c .before .before .before .before .before .front .ensures .0) (omega arith) (sym (c .before .size .given .1) ∙ c .before .before .before .text2 .ensures .0) (c .before .before .before .text2 .ensures .1) .0,
-      prints call _ _ _ (c .before .before .before .before .before .before .before .returned .ensures) (c .before .before .before .before .before .front .ensures .0) (omega arith) (sym (c .before .size .given .1) ∙ c .before .before .before .text2 .ensures .0) (c .before .before .before .text2 .ensures .1) .1,
-    )
+    of-files (omega arith) (omega arith) (c .before .before .before .before .before .before .before .before .before .before .before .before .before .before .before .drill-length .ensures .0)
+    (c .before .before .before .before .before .before .before .before .before .before .find .ensures .0 .defined)
+    (λ _ _ call. prints call _ _ _ (c .before .before .before .before .before .before .before .returned .ensures) (c .before .before .before .before .before .front .ensures .0) (omega arith) (sym (c .before .size .given .1) ∙ c .before .before .before .text2 .ensures .0) (c .before .before .before .text2 .ensures .1))
 
 returns-2 : tie.Need-returns-2
 returns-2 c = absurd (prints (c .before .before .before .before .before .before .before .before .before .find .ensures .0 .defined) _ _ _ (c .before .before .before .before .before .before .returned .ensures) (c .before .before .before .before .front .ensures .0) (omega arith) (sym (c .enum-told .given .1) ∙ c .before .before .text2 .ensures .0) (c .before .before .text2 .ensures .1))

@@ -1,0 +1,2 @@
+-- `Words` has what the loops over words use.
+pub mod Words

@@ -1,0 +1,2 @@
+-- What the contracts of `files` cite: definitions alone.
+pub mod Files
