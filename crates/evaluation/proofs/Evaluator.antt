@@ -22,7 +22,7 @@ use Rattle.expression.proofs.Laws.{Operands, operands}
 use Rattle.meaning.specs.Lists.{Value, overflow, ended, Then.goes, Then.stops, Both, Letter, joinList, applied, Evaluates}
 use Rattle.meaning.specs.Satisfies.{levelOf}
 use Rattle.evaluation.specs.Evaluating.{Looks}
-use Rattle.values.specs.Values.{Standing, EvaluatedAs, most-rounds, Ready, Came, Carried}
+use Rattle.values.specs.Values.{Standing, EvaluatedAs, most-rounds, OperandAt, Came, Carried}
 use Rattle.evaluation.specs.declared.Window.{Window}
 use Rattle.values.specs.declared.Evaluated.{Evaluated}
 use Rattle.values.specs.declared.Evaluated.the-variants.{Listed, Overflow}
@@ -99,7 +99,7 @@ module _ {bytes : List ℕ} {window : Window} (looks : Looks bytes window) where
 
   -- so a value is as the operators with one operand ask for it, and as those with two ask for the right one
   module _ (f : Expression) (ws : List ℤ) (base : ℕ) {ns : List ℕ} {channels i d : ℕ} (planted : Planted ns channels i d f) (shallow : d ≤ 16) where
-    pub came-only : base + 3 * slot-words ≤ length ws → (o : Evaluated) → EvaluatedAs (Comes f) ws base o → Came Ready ws base o
+    pub came-only : base + 3 * slot-words ≤ length ws → (o : Evaluated) → EvaluatedAs (Comes f) ws base o → Came OperandAt ws base o
     came-only room (Listed n p) s = (record { few = s .holds .few; room = room; sound = operand-sound f s }, operand-rounds f s planted shallow)
     came-only room Overflow s = tt
 
@@ -112,8 +112,8 @@ module _ {bytes : List ℕ} {window : Window} (looks : Looks bytes window) where
     left-there : listAt vs base n ≡ listAt us base n
     left-there = listAt-kept base n k (inl (omega (arith, s .holds .few)))
 
-    pub left-ready : base + 3 * slot-words ≤ length us → Ready vs base n
-    left-ready room = record { few = s .holds .few; room = roomy k room; sound = subst Sound (sym left-there) (operand-sound f s) }
+    pub left-operand : base + 3 * slot-words ≤ length us → OperandAt vs base n
+    left-operand room = record { few = s .holds .few; room = roomy k room; sound = subst Sound (sym left-there) (operand-sound f s) }
 
   -- ---- no operand
 

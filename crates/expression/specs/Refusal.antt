@@ -33,7 +33,7 @@ pub data DrillCause (text : List ℕ) (channels : ℕ) : ℕ → Type 0 where
   too-deep : {e : Expression} → Form alternative text e → 16 < depth e → DrillCause text channels 8
 
 -- "Each is given when its cause holds and no earlier one does": n is the number of the first cause
-pub record Refused (text : List ℕ) (channels n : ℕ) : Type 0 where
+pub record DrillRefused (text : List ℕ) (channels n : ℕ) : Type 0 where
   pub holds : DrillCause text channels n
   pub first : (m : ℕ) → m < n → DrillCause text channels m → ⊥
 

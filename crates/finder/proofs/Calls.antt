@@ -26,7 +26,7 @@ use Rattle.finder.specs.Outcome.{Outcome, RecordingHead, DrillLength, Dr
 use Rattle.finder.specs.Demands.{Exact, Total, NoInputCause}
 use Rattle.meaning.proofs.Evaluation.{evaluates-well, evaluates-exists}
 use Rattle.meaning.proofs.Members.{members}
-use Rattle.meaning.proofs.Totals.{evaluates-sum, sum-mem, sum-unique, turns-unique, turns-bound, turns-pieces}
+use Rattle.meaning.proofs.Totals.{evaluates-sum, sum-mem, sum-unique, rounds-of-unique, rounds-of-bound, rounds-of-pieces}
 use Rattle.finder.proofs.Causes.{call-unique, number-none}
 use Rattle.finder.proofs.Comes.{recording-finite, comes-unique, finishes-once}
 use Rattle.finder.proofs.Outcomes.{recordings, drills}
@@ -100,8 +100,8 @@ comes-bounded {bytes} {L = L} {rounds = rounds} some c =
           record {
             rounds = t .0;
             made = t .1;
-            few = turns-bound (Shows bytes) some (t .1);
-            pieces = turns-pieces (Shows bytes) some (recording-finite bytes 0 (ticks bytes)) (t .1);
+            few = rounds-of-bound (Shows bytes) some (t .1);
+            pieces = rounds-of-pieces (Shows bytes) some (recording-finite bytes 0 (ticks bytes)) (t .1);
           };
       sum = s;
     }
@@ -110,7 +110,7 @@ comes-bounded {bytes} {L = L} {rounds = rounds} some c =
 pub total-unique : {bytes text : List ℕ} {m n : ℕ} → Total bytes text m → Total bytes text n → m ≡ n
 total-unique {bytes} {m = m} p q =
     let e = unique (p .form) (q .form) in
-    sum-unique (turns-unique (Shows bytes)) (subst (λ (d : Expression). Sum (RoundsOf (Shows bytes) 0 (ticks bytes)) (repeated d) m) e (p .sum)) (q .sum)
+    sum-unique (rounds-of-unique (Shows bytes)) (subst (λ (d : Expression). Sum (RoundsOf (Shows bytes) 0 (ticks bytes)) (repeated d) m) e (p .sum)) (q .sum)
 
 -- Of every recording and drill for which none of causes 1 to 8 and 10 holds.
 pub inputs-bounded : {bytes text : List ℕ} → NoInputCause bytes text → (total : ℕ) × Total bytes text total

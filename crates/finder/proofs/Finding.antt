@@ -11,7 +11,7 @@ use Rattle.recording.specs.declared.Dimensions.{Dimensions}
 use Rattle.recording.specs.declared.Reading.the-variants.{Recorded}
 use Rattle.recording.proofs.Refusals.{read-numbers, read-end}
 use Rattle.expression.specs.Expression.{Expression}
-use Rattle.expression.specs.Refusal.{Accepted, Refused}
+use Rattle.expression.specs.Refusal.{Accepted, DrillRefused}
 use Rattle.meaning.specs.Lists.{Value, value, overflow, Evaluates}
 use Rattle.delivery.specs.declared.Worked.{Worked}
 use Rattle.delivery.specs.declared.Worked.the-variants.{WorkShort, Overflow, AnswerShort, Finished}
@@ -47,7 +47,7 @@ module _ (bytes : List ℕ) (size : Dimensions) (read : ReadingAs largest bytes 
     none = recording-call bytes text (length answer) (length work) (Recorded size) read
 
     -- A drill that is refused.
-    pub drill-refused : (o : Outcome) → leaves o ≡ both → 0 < returned o .number → Refused text (size .channels) (returned o .number)
+    pub drill-refused : (o : Outcome) → leaves o ≡ both → 0 < returned o .number → DrillRefused text (size .channels) (returned o .number)
         → FindAs bytes text answer work o answer work
     drill-refused o e h f = untouched e (drill-call bytes text (length answer) (length work) none o h (rw same-channels at f))
 

@@ -13,7 +13,7 @@ use Rattle.recording.specs.Reading.{ticks, channels, ReadingAs}
 use Rattle.recording.proofs.Refusals.{reading-exists}
 use Rattle.recording.proofs.Rounding.{tick-range}
 use Rattle.expression.specs.Expression.{Expression}
-use Rattle.expression.specs.Refusal.{Accepted, Refused, DrillCause, wrong-length, no-form, wrong-letter, wrong-range, too-deep}
+use Rattle.expression.specs.Refusal.{Accepted, DrillRefused, DrillCause, wrong-length, no-form, wrong-letter, wrong-range, too-deep}
 use Rattle.parser.proofs.Parses.{answered}
 use Rattle.meaning.specs.Lists.{Value, value, overflow}
 use Rattle.meaning.proofs.Evaluation.{clash, evaluates-exists}
@@ -83,7 +83,7 @@ module _ (bytes text : List ℕ) (answer work : ℕ) where
   )
 
   -- A drill that is refused decides the call: the outcome with that number.
-  pub drill-call : Without recordings → (o : Outcome) → 0 < returned o .number → Refused text (channels bytes) (returned o .number) → CallAs bytes text answer work o
+  pub drill-call : Without recordings → (o : Outcome) → 0 < returned o .number → DrillRefused text (channels bytes) (returned o .number) → CallAs bytes text answer work o
   drill-call n o h r =
       let c = drill-first n (returned o .number) (r .holds) (r .first) in
       subst (CallAs bytes text answer work) (same-number (c .0) o h (c .1)) (c .2)

@@ -5,7 +5,7 @@
 // The recording and the drill follow. Word i of either buffer is i before the call.
 use finder::Outcome;
 use finder::WORK_WORDS;
-use text::Written;
+use sheet::Printed;
 
 // The largest inputs and buffers of a case.
 const RECORDING_BYTES: usize = 32_776;
@@ -18,7 +18,7 @@ const WORK_MOST: usize = 16_400;
 
 fn print_sheet(outcome: Outcome, front: &[i32]) {
     let mut text = [0u8; sheet::LONGEST];
-    let Written::Bytes(n) = sheet::text(outcome, front, &mut text) else {
+    let Printed::Bytes(n) = sheet::text(outcome, front, &mut text) else {
         return;
     };
     case_parts::print_part(&text, n);

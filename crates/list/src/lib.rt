@@ -36,8 +36,8 @@ enum Look {
     Several(usize),
 }
 
-// Moves the n words behind the first six of a part to its front. Both places stand in one part, so that the compiler makes
-// a single move of memory of it.
+// Moves the n words behind the first six of a part to its front. Both places stand in one part, so that it is a single move of
+// memory.
 fn close_gap(part: &mut [i32], n: usize)
     requires { ⌜ n + zone-words ≤ length (now part) ⌝ }
     ensures { λ _. ⌜ Copied zone-words 0 n (now (part .entry)) (now (part .exit)) ⌝ }

@@ -13,11 +13,11 @@ use Rattle.finder.specs.declared.Outcome.{Outcome}
 use Rattle.finder.specs.Outcome.{returned, room, frontOf, FindAs}
 use Rattle.finder.proofs.Causes.{zero-finished}
 use Rattle.finder.proofs.Sizes.{few-zones, few-rounds, front-length, front-ranged}
-use Rattle.text.specs.declared.Written.{Written}
-use Rattle.text.specs.declared.Written.the-variants.{Bytes, TooSmall, FrontShort}
 use Rattle.sheet.specs.Sheet.{sheet}
+use Rattle.sheet.specs.declared.Printed.{Printed}
+use Rattle.sheet.specs.declared.Printed.the-variants.{Bytes, TooSmall, FrontShort}
 use Rattle.sheet.specs.Buffer.{answer, left}
-use Rattle.sheet.proofs.Sheet.{refusal-sheet, finished-sheet, fits, printed}
+use Rattle.sheet.proofs.Sheet.{refusal-sheet, finished-sheet, fits, stands}
 use Rattle.sheet.proofs.Bounds.{Held, refused-length, finished-length}
 use Rattle.marks.specs.Marks.{answer-words, MarkedAs}
 
@@ -45,12 +45,12 @@ module _ {bytes text : List ℕ} {o : Outcome} {answer₁ work₁ : List ℤ} (c
           (omega (arith, front-length c), rw (finished-sheet (returned o) front e) (omega (arith, finished-length front (returned o .zones) (returned o .rounds) held (omega arith) (omega arith))))
 
   -- What is answered is the length of the whole text, and that many bytes of the buffer are the sheet.
-  abbrev pub Prints : List ℕ → Written → Type 0
+  abbrev pub Prints : List ℕ → Printed → Type 0
   Prints out (Bytes n) = MarkedAs bytes text (take n out) × Counts n out
   Prints out TooSmall = ⊥
   Prints out FrontShort = ⊥
 
-  pub prints : {told : Returned} {words : List ℤ} (out out′ : List ℕ) (w : Written) → told ≡ returned o → words ≡ frontOf answer₁ (told .zones) → longest ≤ length out
+  pub prints : {told : Returned} {words : List ℤ} (out out′ : List ℕ) (w : Printed) → told ≡ returned o → words ≡ frontOf answer₁ (told .zones) → longest ≤ length out
       → w ≡ answer (returned o) words (length out) → out′ ≡ left (returned o) words out → Prints out′ w
   prints {told} {words} out out′ w t f long a b =
       let g : words ≡ front = f ∙ ap (λ (r : Returned). frontOf answer₁ (r .zones)) t in
@@ -62,9 +62,9 @@ module _ {bytes text : List ℕ} {o : Outcome} {answer₁ work₁ : List ℤ} (c
       all : answer (returned o) front (length out) ≡ Bytes (length (sheet (returned o) front))
       all = fits (returned o) front (length out) (roomy .0) (omega (arith, roomy .1))
 
-      whole : (v : Written) → v ≡ answer (returned o) front (length out) → Prints out′ v
+      whole : (v : Printed) → v ≡ answer (returned o) front (length out) → Prints out′ v
       whole (Bytes n) e =
-          let p = printed (returned o) front out e in
+          let p = stands (returned o) front out e in
           let s : take n out′ ≡ sheet (returned o) front = ap (take n) same ∙ p .bytes in
           let l = ap length s in
           (record { outcome = o; answer = answer₁; work = work₁; call = call; sheet = s }, (omega (arith, p .size, length-take n out′), omega (arith, p .size)))

@@ -1,7 +1,7 @@
 // Marks the drive in drive.rec by the drill in drill.txt, and prints the sheet.
 use finder::WORK_WORDS;
 use list::SLOT_WORDS;
-use text::Written;
+use sheet::Printed;
 ghost use lib.ListN.{take};
 ghost use Rattle.io.specs.Counts.{Counts};
 ghost use Rattle.marks.specs.Marks.{Marks};
@@ -33,10 +33,10 @@ fn mark(
     let outcome = finder::find(&drive[..n], &text[..k], &mut answer, &mut work);
     let told = outcome.returned();
     match sheet::text(outcome, finder::front(&answer, told.zones), out) {
-        Written::Bytes(size) => size,
+        Printed::Bytes(size) => size,
         // Neither happens: the front is told its own zones, and no sheet is longer.
-        Written::FrontShort => 0,
-        Written::TooSmall => 0,
+        Printed::FrontShort => 0,
+        Printed::TooSmall => 0,
     }
 }
 

@@ -47,8 +47,8 @@ module _ {P : Expression → ℕ → Type 0} where
 
 module _ (Shows : ℕ → Level → ℕ → Type 0) {from to : ℕ} where
   -- A `*` has one number of rounds.
-  pub turns-unique : (f : Expression) (k l : ℕ) → RoundsOf Shows from to f k → RoundsOf Shows from to f l → k ≡ l
-  turns-unique f k l p q =
+  pub rounds-of-unique : (f : Expression) (k l : ℕ) → RoundsOf Shows from to f k → RoundsOf Shows from to f l → k ≡ l
+  rounds-of-unique f k l p q =
       let e = evaluates-unique Shows from to f _ _ (p .list) (q .list) in
       let i : p .inner ≡ q .inner = cc in
       let s = star-unique (subst (λ (A : List Zone). Stars A (diagonal from to) (finished k (p .outer))) i (p .star)) (q .star) in
@@ -73,14 +73,14 @@ module _ (Shows : ℕ → Level → ℕ → Type 0) {from to : ℕ} where
 
 module _ (Shows : ℕ → Level → ℕ → Type 0) {from to : ℕ} (some : from < to) where
   -- Its rounds, the last included, are at most n + (to − from), n the number of zones of the finished inner list.
-  pub turns-bound : {f : Expression} {k : ℕ} (w : RoundsOf Shows from to f k) → k ≤ length (w .inner) + (to - from)
-  turns-bound {f} w = star-bound (evaluates-well Shows (omega arith) f _ (w .list) .proper) some (w .star)
+  pub rounds-of-bound : {f : Expression} {k : ℕ} (w : RoundsOf Shows from to f k) → k ≤ length (w .inner) + (to - from)
+  rounds-of-bound {f} w = star-bound (evaluates-well Shows (omega arith) f _ (w .list) .proper) some (w .star)
 
   -- Every stretch inside from..to that satisfies it is cut into at most so many consecutive pieces that each satisfy the part repeated.
-  pub turns-pieces : FiniteVariability Shows from to → {f : Expression} {k : ℕ} (w : RoundsOf Shows from to f k)
+  pub rounds-of-pieces : FiniteVariability Shows from to → {f : Expression} {k : ℕ} (w : RoundsOf Shows from to f k)
       → (x y : Time) → Stretch from to x y → Satisfies Shows (unary Star f) x y
       → (n : ℕ) × (n ≤ length (w .inner) + (to - from)) × Pieces (λ u v. Satisfies Shows f u v) n x y
-  turns-pieces finite {f} w x y s h =
+  rounds-of-pieces finite {f} w x y s h =
       let order : from ≤ to = omega arith in
       let i = pieces-members Shows finite order f _ (w .list) s in
       let a = evaluates-well Shows order f _ (w .list) .proper in
@@ -114,11 +114,11 @@ repeated-few (unary Star e) = one-few e (repeated-few e)
 repeated-few (unary (Band r) e) = let h = one-few e (repeated-few e) in omega arith
 
 module _ (Shows : ℕ → Level → ℕ → Type 0) {from to : ℕ} (some : from < to) where
-  turns-few : (f : Expression) (k : ℕ) → RoundsOf Shows from to f k → k ≤ capacity + (to - from)
-  turns-few f k w = let h = turns-bound Shows some w in let s = evaluates-well Shows (omega arith) f _ (w .list) .short in omega arith
+  rounds-of-few : (f : Expression) (k : ℕ) → RoundsOf Shows from to f k → k ≤ capacity + (to - from)
+  rounds-of-few f k w = let h = rounds-of-bound Shows some w in let s = evaluates-well Shows (omega arith) f _ (w .list) .short in omega arith
 
   -- So the total of rounds is at most 128 + (to − from) for each `*` that an expression of its depth has room for.
   pub rounds-bound : (e : Expression) (L : List Zone) (t : ℕ) → Evaluates Shows from to e (value L t) → t ≤ 2 ^ depth e * (capacity + (to - from))
   rounds-bound e L t p =
       let a : length (repeated e) ≤ 2 ^ depth e = let h = repeated-few e in omega arith in
-      le-trans (sum-bound turns-few (evaluates-sum Shows e L t p)) (mul-le-mul-right (capacity + (to - from)) a)
+      le-trans (sum-bound rounds-of-few (evaluates-sum Shows e L t p)) (mul-le-mul-right (capacity + (to - from)) a)

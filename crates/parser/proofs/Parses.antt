@@ -13,7 +13,7 @@ use Rattle.parser.specs.declared.Parsed.the-variants.{Root, NoForm, Wron
 use Rattle.expression.specs.declared.Join.the-variants.{Union}
 use Rattle.expression.specs.Expression.{Expression, depth}
 use Rattle.expression.specs.Grammar.{Form, alternative}
-use Rattle.expression.specs.Refusal.{DrillCause, wrong-length, no-form, wrong-letter, wrong-range, too-deep, Refused, Accepted}
+use Rattle.expression.specs.Refusal.{DrillCause, wrong-length, no-form, wrong-letter, wrong-range, too-deep, DrillRefused, Accepted}
 use Rattle.expression.specs.Stored.{Stored}
 use Rattle.parser.specs.Parsing.{ParsedAs}
 use Rattle.tokens.specs.Tokens.{Got, no, yes}
@@ -34,7 +34,7 @@ cause-least (wrong-letter f m h) = omega arith
 cause-least (wrong-range f m h) = omega arith
 cause-least (too-deep f h) = omega arith
 
-pub refused-length : {text : List ℕ} {channels : ℕ} → Long text → Refused text channels 4
+pub refused-length : {text : List ℕ} {channels : ℕ} → Long text → DrillRefused text channels 4
 refused-length h = record { holds = wrong-length h; first = λ m l c. omega (arith, cause-least c) }
 
 pub right-length : (text : List ℕ) → (length text ≡ 0 → ⊥) → length text ≤ 255 → Long text → ⊥
@@ -42,7 +42,7 @@ right-length text a b = ⊎-elim a (λ h. omega arith)
 
 -- the length is right
 module _ {text : List ℕ} {channels : ℕ} (right : Long text → ⊥) where
-  refused-form : ((e : Expression) → Form alternative text e → ⊥) → Refused text channels 5
+  refused-form : ((e : Expression) → Form alternative text e → ⊥) → DrillRefused text channels 5
   refused-form h = record { holds = no-form h; first = earlier }
     where
       earlier : (m : ℕ) → m < 5 → DrillCause text channels m → ⊥
@@ -53,11 +53,11 @@ module _ {text : List ℕ} {channels : ℕ} (right : Long text → ⊥) where
       earlier m l (too-deep f w) = omega arith
 
   -- descent comes to nothing
-  pub refused-stop : descent (joining Union) text ≡ no → Refused text channels 5
+  pub refused-stop : descent (joining Union) text ≡ no → DrillRefused text channels 5
   refused-stop h = refused-form (λ e f. no-yes (sym h ∙ whole-complete f))
 
   -- or to a part of the text
-  pub refused-part : {e : Expression} {r : List ℕ} → descent (joining Union) text ≡ yes e r → 0 < length r → Refused text channels 5
+  pub refused-part : {e : Expression} {r : List ℕ} → descent (joining Union) text ≡ yes e r → 0 < length r → DrillRefused text channels 5
   refused-part h l = refused-form (λ e f. omega (arith, ap length (yes-text (sym h ∙ whole-complete f))))
 
   -- the text is the expression e
@@ -70,7 +70,7 @@ module _ {text : List ℕ} {channels : ℕ} (right : Long text → ⊥) where
     none-below n six seven eight m l (wrong-range f i w) = range-right e (seven l) (rw (unique f form) at i) w
     none-below n six seven eight m l (too-deep f w) = omega (arith, eight l, ap depth (unique f form))
 
-    pub refused-letter : channels < width e → Refused text channels 6
+    pub refused-letter : channels < width e → DrillRefused text channels 6
     refused-letter h =
         let b = letter-beyond e channels h in
         record {
@@ -79,13 +79,13 @@ module _ {text : List ℕ} {channels : ℕ} (right : Long text → ⊥) where
         }
 
     module _ (six : width e ≤ channels) where
-      pub refused-range : wrong e ≡ true → Refused text channels 7
+      pub refused-range : wrong e ≡ true → DrillRefused text channels 7
       refused-range h =
           let b = range-wrong e h in
           record { holds = wrong-range form (b .1) (b .2); first = none-below 7 (λ l. six) (λ l. absurd (omega arith)) (λ l. absurd (omega arith)) }
 
       module _ (seven : wrong e ≡ false) where
-        pub refused-depth : 16 < depth e → Refused text channels 8
+        pub refused-depth : 16 < depth e → DrillRefused text channels 8
         refused-depth h = record { holds = too-deep form h; first = none-below 8 (λ l. six) (λ l. seven) (λ l. absurd (omega arith)) }
 
         pub accepted : depth e ≤ 16 → Accepted text channels e
@@ -128,11 +128,11 @@ module _ {text before ns : List ℕ} {tree : Tree} (s : Reached (joining Union) 
 -- EVERY TEXT HAS AN ANSWER
 
 -- A text is accepted as some expression, or refused by some number.
-pub answered : (text : List ℕ) (channels : ℕ) → ((e : Expression) × Accepted text channels e) ⊎ ((n : ℕ) × Refused text channels n)
+pub answered : (text : List ℕ) (channels : ℕ) → ((e : Expression) × Accepted text channels e) ⊎ ((n : ℕ) × DrillRefused text channels n)
 answered text channels = by-length (ltb 0 (length text)) (ltb 255 (length text)) refl refl
   where
     Answer : Type 0
-    Answer = ((e : Expression) × Accepted text channels e) ⊎ ((n : ℕ) × Refused text channels n)
+    Answer = ((e : Expression) × Accepted text channels e) ⊎ ((n : ℕ) × DrillRefused text channels n)
 
     by-checks : (Long text → ⊥) → (e : Expression) → Form alternative text e → (a b c : Bool) → ltb channels (width e) ≡ a → wrong e ≡ b → ltb 16 (depth e) ≡ c → Answer
     by-checks right e f true b c p q r = inr (6, refused-letter right f (ltb-true _ _ p))
@@ -156,14 +156,14 @@ answered text channels = by-length (ltb 0 (length text)) (ltb 255 (length text))
 -- AND NO OTHER
 
 -- No text is refused by two numbers.
-pub one-refusal : {text : List ℕ} {channels m n : ℕ} → Refused text channels m → Refused text channels n → m ≡ n
+pub one-refusal : {text : List ℕ} {channels m n : ℕ} → DrillRefused text channels m → DrillRefused text channels n → m ≡ n
 one-refusal {m = m} {n = n} p q =
     let a : m < n → ⊥ = λ h. q .first m h (p .holds) in
     let b : n < m → ⊥ = λ h. p .first n h (q .holds) in
     omega arith
 
 -- An accepted text is not refused.
-pub accepted-stands : {text : List ℕ} {channels n : ℕ} {e : Expression} → Accepted text channels e → Refused text channels n → ⊥
+pub accepted-stands : {text : List ℕ} {channels n : ℕ} {e : Expression} → Accepted text channels e → DrillRefused text channels n → ⊥
 accepted-stands p q = p .none _ (q .holds)
 
 -- A text is accepted as one expression.

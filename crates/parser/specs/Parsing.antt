@@ -4,7 +4,7 @@ use Prim.Native.Nat.{ℕ}
 use Rattle.parser.specs.declared.Parsed.{Parsed}
 use Rattle.parser.specs.declared.Parsed.the-variants.{Root, WrongLength, NoForm, WrongLetter, WrongRange, TooDeep}
 use Rattle.expression.specs.Expression.{Expression}
-use Rattle.expression.specs.Refusal.{Refused, Accepted}
+use Rattle.expression.specs.Refusal.{DrillRefused, Accepted}
 use Rattle.expression.specs.Stored.{Stored}
 
 -- document 01's number of each answer, 0 being that of an accepted drill
@@ -21,8 +21,8 @@ numberOf TooDeep = 8
 -- Refused: the number is that of the first cause. All words of the buffer are then free: any words, as many as before.
 abbrev pub ParsedAs : List ℕ → ℕ → List ℕ → Parsed → Type 0
 ParsedAs text channels ns (Root n) = (e : Expression) × Accepted text channels e × Stored ns n e
-ParsedAs text channels ns WrongLength = Refused text channels (numberOf WrongLength)
-ParsedAs text channels ns NoForm = Refused text channels (numberOf NoForm)
-ParsedAs text channels ns WrongLetter = Refused text channels (numberOf WrongLetter)
-ParsedAs text channels ns WrongRange = Refused text channels (numberOf WrongRange)
-ParsedAs text channels ns TooDeep = Refused text channels (numberOf TooDeep)
+ParsedAs text channels ns WrongLength = DrillRefused text channels (numberOf WrongLength)
+ParsedAs text channels ns NoForm = DrillRefused text channels (numberOf NoForm)
+ParsedAs text channels ns WrongLetter = DrillRefused text channels (numberOf WrongLetter)
+ParsedAs text channels ns WrongRange = DrillRefused text channels (numberOf WrongRange)
+ParsedAs text channels ns TooDeep = DrillRefused text channels (numberOf TooDeep)

@@ -2,7 +2,7 @@
 use mathlib.Core.Path.{_≡_, refl}
 use mathlib.Core.List.{List, [], _∷_, _++_}
 use Prim.Native.Nat.{ℕ}
-use Rattle.recording.specs.Reading.{tick, le16, le32, marked, changes, Refused, ReadingAs}
+use Rattle.recording.specs.Reading.{tick, le16, le32, marked, changes, RecordingRefused, ReadingAs}
 use Rattle.recording.specs.Levels.{Shows, levelIn}
 use Rattle.recording.specs.Runs.{Runs}
 use Rattle.recording.specs.Tests.{sized, headed, changed, allChanged}
@@ -83,6 +83,6 @@ unfolding reading sized headed allChanged changed marked le32 le16 tick runsOf s
 at-once = computed _ 10 refl
 
 -- a second head is a wrong change
-pub second-head : Refused 32768 (head 100 ++ head 100) 3
+pub second-head : RecordingRefused 32768 (head 100 ++ head 100) 3
 unfolding reading sized headed allChanged changed marked le32 le16
 second-head = exactly 32768 (head 100 ++ head 100) WrongChange .0 refl

@@ -12,7 +12,7 @@ use borrow.Author.Tests.{ltb-true, ltb-false, lt-ltb, leb-true, leb-false, le-le
 use lib.Dec.{leb, ltb, eqb}
 use lib.Pow.{shl-exact}
 use lib.ListN.{length}
-use Rattle.recording.specs.Reading.{Sized, Headed, Changed, AllChanged, RecordingCause, wrong-length, wrong-head, wrong-change, Refused, ReadAs, ReadingAs, dimensions, marked, headMark, changeMark, duration, channels, changes, time, levels, byteAt, ticks}
+use Rattle.recording.specs.Reading.{Sized, Headed, Changed, AllChanged, RecordingCause, wrong-length, wrong-head, wrong-change, RecordingRefused, ReadAs, ReadingAs, dimensions, marked, headMark, changeMark, duration, channels, changes, time, levels, byteAt, ticks}
 use Rattle.recording.specs.Tests.{sized, headed, changed, allChanged}
 use Rattle.recording.specs.declared.Dimensions.{Dimensions}
 use Rattle.recording.specs.declared.Reading.{Reading}
@@ -177,7 +177,7 @@ met m one two three (wrong-head x) = x (two refl)
 met m one two three (wrong-change x) = x (three refl)
 
 -- a wrong length is the first cause, whatever else is wrong
-pub refused-length : {largest : ℕ} {bytes : List ℕ} → ¬ Sized largest bytes → Refused largest bytes 1
+pub refused-length : {largest : ℕ} {bytes : List ℕ} → ¬ Sized largest bytes → RecordingRefused largest bytes 1
 refused-length n = record { holds = wrong-length n; first = λ m l. met m (λ e. absurd (omega arith)) (λ e. absurd (omega arith)) (λ e. absurd (omega arith)) }
 
 module _ (largest : ℕ) (bytes : List ℕ) where

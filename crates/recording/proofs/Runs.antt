@@ -203,9 +203,9 @@ unfoldable pub runsOf : (ℕ → Bool) → ℕ → ℕ → List Run
 unfolding walk
 runsOf test from to = walk test (to - from) from from
 
-joined : (t : Bool) (xs : List Run) (x : Run) (rest : List Run) → (xs ++ cond t (x ∷ []) []) ++ rest ≡ xs ++ cond t (x ∷ rest) rest
-joined true xs x rest = append-assoc xs (x ∷ []) rest
-joined false xs x rest = rw append-nil
+then-rest : (t : Bool) (xs : List Run) (x : Run) (rest : List Run) → (xs ++ cond t (x ∷ []) []) ++ rest ≡ xs ++ cond t (x ∷ rest) rest
+then-rest true xs x rest = append-assoc xs (x ∷ []) rest
+then-rest false xs x rest = rw append-nil
 
 module _ {P : ℕ → Type 0} {from to : ℕ} where
   -- an open run that ends at `at` is the next one, if it is one
@@ -242,7 +242,7 @@ module _ {P : ℕ → Type 0} {from to : ℕ} where
           → Complete P from to (xs ++ elim t [ true ↦ walk test n s (suc at) | false ↦ closed s at (walk test n (suc at) (suc at)) ])
       go on new true q = on (λ k a b. elim (ℕ-discrete k at) [ yes z ↦ subst P (sym z) (tests at .0 q) | no z ↦ p k a (omega arith) ])
       go on new false q =
-          rw (← joined (ltb s at) xs (run s at) (walk test n (suc at) (suc at)))
+          rw (← then-rest (ltb s at) xs (run s at) (walk test n (suc at) (suc at)))
           (new (xs ++ cond (ltb s at) (run s at ∷ []) []) (scanned-skip (shut c h p (omega arith) (λ _. fails) (ltb s at) refl) fails))
         where
           fails : P at → ⊥

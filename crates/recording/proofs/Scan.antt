@@ -9,7 +9,7 @@ use native.Mathlib.Omega.{arith}
 use Rattle.recording.specs.Reading.{ticks, changes, ReadAs}
 use Rattle.recording.specs.Levels.{Shows, reported, unreported}
 use Rattle.recording.specs.Scan.{begins, NextRun}
-use Rattle.recording.specs.Search.{leaves, Answer, Sought}
+use Rattle.recording.specs.Search.{leaves, Decides, Sought}
 use Rattle.recording.specs.declared.Level.{Level}
 use Rattle.recording.specs.declared.Dimensions.{Dimensions}
 use Rattle.recording.specs.declared.Cursor.{Cursor}
@@ -19,7 +19,7 @@ use Rattle.recording.proofs.Levels.{begins-mono, begins-ticks, begins-e
 -- what the search keeps: change i comes next, and no tick from change j up to there has what is wanted
 pub record Seeking (bytes : List ℕ) (channel : ℕ) (level : Level) (from to j : ℕ) (wanted : Bool) (i : ℕ) : Type 0 where
   pub ahead : j ≤ i
-  pub passed : (k : ℕ) → from ≤ k → k < to → begins bytes j ≤ k → k < begins bytes i → Answer (not wanted) (Shows bytes channel level k)
+  pub passed : (k : ℕ) → from ≤ k → k < to → begins bytes j ≤ k → k < begins bytes i → Decides (not wanted) (Shows bytes channel level k)
 
 agreed : (a b : Bool) → Bool·beq a b ≡ true → a ≡ b
 agreed true true e = refl
@@ -33,7 +33,7 @@ other false true e = refl
 other true true e = e
 other false false e = sym e
 
-answered : {t : Bool} {A : Type 0} (w : Bool) → (t ≡ true) ↔ A → t ≡ w → Answer w A
+answered : {t : Bool} {A : Type 0} (w : Bool) → (t ≡ true) ↔ A → t ≡ w → Decides w A
 answered true h e = h .0 e
 answered false h e = λ a. let q = h .1 a in let z : _≡_ {A = ℕ} 0 1 = cc in omega arith
 

@@ -93,7 +93,7 @@ pub data RecordingCause (largest : ℕ) (bytes : List ℕ) : ℕ → Type 0 wher
   wrong-change : ¬ AllChanged bytes → RecordingCause largest bytes 3
 
 -- "Each is given when its cause holds and no earlier one does": n is the number of the first cause
-pub record Refused (largest : ℕ) (bytes : List ℕ) (n : ℕ) : Type 0 where
+pub record RecordingRefused (largest : ℕ) (bytes : List ℕ) (n : ℕ) : Type 0 where
   pub holds : RecordingCause largest bytes n
   pub first : (m : ℕ) → m < n → ¬ RecordingCause largest bytes m
 
@@ -119,7 +119,7 @@ number (Recorded size) = 0
 -- The answer for bytes of which there may be so many. Refused: the number is that of the first cause. Read: no cause holds, and the dimensions
 -- are those of the bytes.
 abbrev pub ReadingAs : (largest : ℕ) (bytes : List ℕ) → Reading → Type 0
-ReadingAs largest bytes WrongLength = Refused largest bytes (number WrongLength)
-ReadingAs largest bytes WrongHead = Refused largest bytes (number WrongHead)
-ReadingAs largest bytes WrongChange = Refused largest bytes (number WrongChange)
+ReadingAs largest bytes WrongLength = RecordingRefused largest bytes (number WrongLength)
+ReadingAs largest bytes WrongHead = RecordingRefused largest bytes (number WrongHead)
+ReadingAs largest bytes WrongChange = RecordingRefused largest bytes (number WrongChange)
 ReadingAs largest bytes (Recorded size) = ((n : ℕ) → ¬ RecordingCause largest bytes n) × ReadAs bytes size

@@ -22,14 +22,14 @@ unfoldable pub leaves : List ℕ → ℕ → Level → ℕ → Bool
 leaves bytes channel level j = cond (eqb j 0) (sameLevel Low level) (sameLevel (levelIn (levels bytes j) channel) level)
 
 -- the claim A, or that it fails
-abbrev pub Answer : Bool → Type 0 → Type 0
-Answer true A = A
-Answer false A = A → ⊥
+abbrev pub Decides : Bool → Type 0 → Type 0
+Decides true A = A
+Decides false A = A → ⊥
 
 -- change r is the first from change j on that leaves a level for some ticks of from..to, and there the channel has the level if
 -- `wanted`, and does not if not; or `to` comes first
 pub record Sought (bytes : List ℕ) (channel : ℕ) (level : Level) (from to j : ℕ) (wanted : Bool) (r : ℕ) : Type 0 where
   pub ahead : j ≤ r
-  pub passed : (k : ℕ) → from ≤ k → k < to → begins bytes j ≤ k → k < begins bytes r → Answer (not wanted) (Shows bytes channel level k)
+  pub passed : (k : ℕ) → from ≤ k → k < to → begins bytes j ≤ k → k < begins bytes r → Decides (not wanted) (Shows bytes channel level k)
   pub fits : begins bytes r < to → max from (begins bytes r) < min to (begins bytes (r + 1))
   pub shown : begins bytes r < to → leaves bytes channel level r ≡ wanted

@@ -1,7 +1,7 @@
 -- The sheet of each outcome, and what is answered of it.
-use mathlib.Core.Path.{_≡_, refl, _∙_}
+use mathlib.Core.Path.{_≡_, refl, ap, _∙_}
 use mathlib.Core.Logic.{⊎-elim}
-use mathlib.Core.List.{List, [], _++_}
+use mathlib.Core.List.{List, _++_}
 use Prim.Native.Nat.{ℕ, _*_, _≤_, _<_}
 use native.Mathlib.Omega.{arith}
 use lib.IntN.{ℤ}
@@ -9,9 +9,9 @@ use lib.ListN.{length, take, drop}
 use lib.Seq.{take-append-seam, drop-append-seam}
 use borrow.Author.Tests.{le-leb, lt-leb}
 use Rattle.text.specs.declared.Written.{Written}
-use Rattle.text.specs.declared.Written.the-variants.{Bytes, TooSmall, FrontShort}
+use Rattle.text.specs.declared.Written.the-variants.{Bytes as bytes, TooSmall as small}
 use Rattle.text.specs.Buffer.{Appends}
-use Rattle.text.proofs.Buffer.{or-longer, fits-onto, fits-fitted, over-fitted, fitted-bytes, at-first}
+use Rattle.text.proofs.Buffer.{or-longer, fits-onto, fits-fitted, over-fitted, fitted-bytes, whole}
 use Rattle.finder.specs.declared.Returned.{Returned}
 use Rattle.finder.specs.declared.Outcome.{Outcome}
 use Rattle.finder.specs.declared.Outcome.the-variants.{
@@ -30,7 +30,7 @@ use Rattle.finder.specs.declared.Outcome.the-variants.{
 }
 use Rattle.finder.specs.Outcome.{returned}
 use Rattle.sheet.specs.Sheet.{finished, refused, sheet}
-use Rattle.sheet.specs.Buffer.{answer, left}
+use Rattle.sheet.specs.Buffer.{Bytes, TooSmall, FrontShort, of-text, answer, left}
 
 -- what a refusal comes to
 pub refusal-sheet : (o : Outcome) → 0 < returned o .number → (front : List ℤ) → (sheet (returned o) front ≡ refused (returned o .number)) × (returned o .zones ≡ 0) × (returned o .number < 100)
@@ -54,11 +54,11 @@ unfolding sheet
 finished-sheet r front e = rw e
 
 module _ (r : Returned) (front : List ℤ) {out : List ℕ} where
-  pub told : {s out′ : List ℕ} {w : Written} → r .zones * 6 ≤ length front → sheet r front ≡ s → Appends s out (Bytes 0) out′ w → (w ≡ answer r front (length out)) × (out′ ≡ left r front out)
+  pub told : {s out′ : List ℕ} {w : Written} → r .zones * 6 ≤ length front → sheet r front ≡ s → Appends s out (bytes 0) out′ w → (of-text w ≡ answer r front (length out)) × (out′ ≡ left r front out)
   unfolding answer left
   told h e a =
-      let g = a .behind out [] (at-first out) in
-      (rw (le-leb _ _ h, e) (g .answer), rw (le-leb _ _ h, e) (g .bytes))
+      let g = whole _ a in
+      (rw (le-leb _ _ h, e) (ap of-text (g .1)), rw (le-leb _ _ h, e) (g .0))
 
   pub told-short : length front < r .zones * 6 → (FrontShort ≡ answer r front (length out)) × (out ≡ left r front out)
   unfolding answer left
@@ -66,8 +66,12 @@ module _ (r : Returned) (front : List ℤ) {out : List ℕ} where
 
 -- ---- what the contract comes to, case by case
 
+from-text : {n : ℕ} (w : Written) → Bytes n ≡ of-text w → bytes n ≡ w
+from-text (bytes m) e = cc
+from-text small e = let z : _≡_ {A = ℕ} 0 1 = cc in absurd (omega arith)
+
 -- n bytes are written: they are the sheet, and the rest is as it was
-pub record Printed (r : Returned) (front : List ℤ) (out : List ℕ) (n : ℕ) : Type 0 where
+pub record Stands (r : Returned) (front : List ℤ) (out : List ℕ) (n : ℕ) : Type 0 where
   pub size : n ≡ length (sheet r front)
   pub room : n ≤ length out
   pub bytes : take n (left r front out) ≡ sheet r front
@@ -77,12 +81,12 @@ module _ (r : Returned) (front : List ℤ) where
   -- Where the words of all zones are there and the sheet fits, its length is answered.
   pub fits : (room : ℕ) → r .zones * 6 ≤ length front → length (sheet r front) ≤ room → answer r front room ≡ Bytes (length (sheet r front))
   unfolding answer
-  fits room h k = rw (le-leb _ _ h) (fits-fitted (sheet r front) room k)
+  fits room h k = rw (le-leb _ _ h) (ap of-text (fits-fitted (length (sheet r front)) room k))
 
   -- Where the words are there and the sheet is longer than the buffer, TooSmall is.
   pub too-small : (room : ℕ) → r .zones * 6 ≤ length front → room < length (sheet r front) → answer r front room ≡ TooSmall
   unfolding answer
-  too-small room h k = rw (le-leb _ _ h) (over-fitted (sheet r front) room k)
+  too-small room h k = rw (le-leb _ _ h) (ap of-text (over-fitted (length (sheet r front)) room k))
 
   -- Where words of zones are missing, FrontShort is.
   pub front-short : (room : ℕ) → length front < r .zones * 6 → answer r front room ≡ FrontShort
@@ -90,12 +94,12 @@ module _ (r : Returned) (front : List ℤ) where
   front-short room h = rw (lt-leb _ _ h)
 
   -- Where a count is answered, the sheet stands in that many bytes of the buffer.
-  pub printed : (out : List ℕ) {n : ℕ} → Bytes n ≡ answer r front (length out) → Printed r front out n
+  pub stands : (out : List ℕ) {n : ℕ} → Bytes n ≡ answer r front (length out) → Stands r front out n
   unfolding answer left
-  printed out {n} e =
+  stands out {n} e =
       ⊎-elim
       (λ h.
-      let f = fitted-bytes (sheet r front) {n = length out} (e ∙ rw (le-leb (r .zones * 6) (length front) h)) in
+      let f = fitted-bytes {m = length (sheet r front)} {n = length out} (from-text _ (e ∙ rw (le-leb (r .zones * 6) (length front) h))) in
       let o : left r front out ≡ sheet r front ++ drop (length (sheet r front)) out = rw (le-leb (r .zones * 6) (length front) h) (fits-onto (sheet r front) out (f .1)) in
       record {
         size = f .0;

@@ -8,7 +8,7 @@ use Rattle.limit.specs.declared.Limit.{Limit}
 use Rattle.limit.specs.declared.Limit.the-variants.{AtMost, Below}
 use Rattle.zone.specs.declared.Zone.{Zone}
 use Rattle.limit.specs.Limit.{value}
-use Rattle.words.specs.Words.{zoneAt}
+use Rattle.words.specs.Words.{zone-words, zoneAt}
 use Rattle.text.specs.Decimal.{decimal, integer}
 use Rattle.finder.specs.declared.Returned.{Returned}
 use Rattle.text.specs.Text.{ascii}
@@ -29,10 +29,10 @@ line z =
     ascii "start " ++ (range (z .nstart) (z .start)
     ++ (ascii " end " ++ (range (z .nend) (z .end) ++ (ascii " length " ++ (range (z .nlength) (z .length) ++ ascii "\n")))))
 
--- the lines of the first n zones in the words, six words a zone, in list order
+-- the lines of the first n zones in the words, in list order
 unfoldable pub lines : List ℤ → ℕ → List ℕ
 lines front zero = []
-lines front (suc n) = lines front n ++ line (zoneAt front (n * 6))
+lines front (suc n) = lines front n ++ line (zoneAt front (n * zone-words))
 
 -- "Line one: zones listed, total of rounds. Then each zone"
 unfoldable pub finished : ℕ → ℕ → List ℤ → List ℕ

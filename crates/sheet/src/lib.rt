@@ -3,6 +3,7 @@
 use finder::Outcome;
 use limit::Limit;
 use text::Written;
+use words::ZONE_WORDS;
 use zone::Zone;
 ghost use mathlib.Core.Path.{_≡_};
 ghost use mathlib.Core.List.{[], _∷_, _++_};
@@ -11,14 +12,25 @@ ghost use lib.IntN.{negℤ};
 ghost use lib.Signed.{mag};
 ghost use lib.ListN.{length};
 ghost use Rattle.limit.specs.Limit.{value};
+ghost use Rattle.words.specs.Words.{zone-words};
 ghost use Rattle.text.specs.declared.Written.the-variants.{Bytes};
 ghost use Rattle.text.specs.Buffer.{Appends};
 ghost use Rattle.finder.specs.Outcome.{returned};
 ghost use Rattle.sheet.specs.Sheet.{bracket, range, line, lines, finished, refused};
-ghost use Rattle.sheet.specs.Buffer.{answer, left};
+ghost use Rattle.sheet.specs.Buffer.{of-text, answer, left};
 
 // Room for the sheet of any call.
 pub const LONGEST: usize = 12_288;
+
+// What writing a sheet comes to.
+pub enum Printed {
+    // All of it, so many bytes from the front.
+    Bytes(usize),
+    // The buffer is shorter than the sheet.
+    TooSmall,
+    // The words of the zones are not all there; nothing is written.
+    FrontShort,
+}
 
 fn number(l: Limit) -> i64
     ensures { λ r. ⌜ (r ≡ value l) × (mag r < 2_147_483_648) ⌝ }
@@ -80,13 +92,13 @@ fn line(out: &mut [u8], w: Written, z: Zone) -> Written
 }
 
 fn lines(out: &mut [u8], w: Written, front: &[i32], zones: usize) -> Written
-    requires { ⌜ zones * 6 ≤ length (now front) ⌝ }
+    requires { ⌜ zones * zone-words ≤ length (now front) ⌝ }
     ensures { λ r. ⌜ Appends (lines (now (front .entry)) zones) (now (out .entry)) w (now (out .exit)) r ⌝ }
 {
     let mut so_far = w;
     let mut i = 0;
     while i < zones {
-        let z = words::read_zone(front, i * 6);
+        let z = words::read_zone(front, i * ZONE_WORDS);
         so_far = line(out, so_far, z);
         i += 1;
     }
@@ -94,7 +106,7 @@ fn lines(out: &mut [u8], w: Written, front: &[i32], zones: usize) -> Written
 }
 
 fn finished(out: &mut [u8], zones: usize, rounds: u64, front: &[i32]) -> Written
-    requires { ⌜ zones * 6 ≤ length (now front) ⌝ }
+    requires { ⌜ zones * zone-words ≤ length (now front) ⌝ }
     ensures { λ r. ⌜ Appends (finished zones rounds (now (front .entry))) (now (out .entry)) (Bytes 0) (now (out .exit)) r ⌝ }
 {
     let w1 = text::literal(out, Written::Bytes(0), b"zones ");
@@ -113,18 +125,28 @@ fn refused(out: &mut [u8], n: u64) -> Written
     text::put(out, w2, b'\n')
 }
 
+// What is answered of a text is answered of the sheet that it is.
+fn of_text(w: Written) -> Printed
+    ensures { λ r. ⌜ r ≡ of-text w ⌝ }
+{
+    match w {
+        Written::Bytes(n) => Printed::Bytes(n),
+        Written::TooSmall => Printed::TooSmall,
+    }
+}
+
 // Writes the sheet of an outcome, whose zones stand in `front`, to the front of `out`; what is behind it stays as it
 // was. Of a sheet that is too long the buffer holds as much as it has room for.
-pub fn text(outcome: Outcome, front: &[i32], out: &mut [u8]) -> Written
+pub fn text(outcome: Outcome, front: &[i32], out: &mut [u8]) -> Printed
     ensures answer { λ r. ⌜ r ≡ answer (returned outcome) (now (front .entry)) (length (now (out .entry))) ⌝ }
     ensures out { λ _. ⌜ now (out .exit) ≡ left (returned outcome) (now (front .entry)) (now (out .entry)) ⌝ }
 {
     let told = outcome.returned();
     if 0 < told.number {
-        return refused(out, told.number as u64);
+        return of_text(refused(out, told.number as u64));
     }
-    if front.len() / 6 < told.zones {
-        return Written::FrontShort;
+    if front.len() / ZONE_WORDS < told.zones {
+        return Printed::FrontShort;
     }
-    finished(out, told.zones, told.rounds, front)
+    of_text(finished(out, told.zones, told.rounds, front))
 }

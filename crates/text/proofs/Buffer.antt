@@ -1,16 +1,16 @@
 -- Texts that go into a buffer piece by piece.
-use mathlib.Core.Path.{_≡_, refl, sym, ap, subst, _∙_}
+use mathlib.Core.Path.{_≡_, refl, sym, ap, _∙_}
 use mathlib.Core.Logic.{_⊎_, inl, inr, ⊎-elim}
 use mathlib.Core.Bool.{Bool, true, false}
 use mathlib.Core.List.{List, [], _∷_, _++_, append-assoc, append-nil}
-use Prim.Native.Nat.{ℕ, _+_, _≤_, _<_}
+use Prim.Native.Nat.{ℕ, _+_, _-_, _≤_, _<_}
 use native.Mathlib.Numerals.{add-one}
 use native.Mathlib.Omega.{arith}
 use lib.Dec.{leb}
-use lib.ListN.{length, drop, set, length-append, length-take, length-drop, drop-of-length-le}
-use lib.Seq.{take-nil, take-all, take-append-le, drop-cons, set-append-seam, append-snoc}
+use lib.ListN.{length, take, drop, set, length-append, length-take, length-drop, drop-of-length-le, take-append-drop}
+use lib.Seq.{take-nil, take-all, take-append-le, take-append-add, take-at, drop-at, drop-drop, set-split}
 use borrow.Author.Tests.{le-leb, lt-leb, leb-true, leb-false}
-use Rattle.text.specs.Buffer.{Written, Bytes, TooSmall, onto, fitted, HoldsText, Appends}
+use Rattle.text.specs.Buffer.{Written, Bytes, TooSmall, onto, fitted, behind, reached, Appends}
 
 -- ---- the two ways that a text lies in a buffer
 
@@ -18,18 +18,13 @@ pub fits-onto : (t o : List ℕ) → length t ≤ length o → onto t o ≡ t ++
 unfolding onto
 fits-onto t o h = rw (take-all (length o) t h)
 
-pub fits-fitted : (t : List ℕ) (n : ℕ) → length t ≤ n → fitted t n ≡ Bytes (length t)
+pub fits-fitted : (m n : ℕ) → m ≤ n → fitted m n ≡ Bytes m
 unfolding fitted
-fits-fitted t n h = rw (le-leb _ _ h)
+fits-fitted m n h = rw (le-leb _ _ h)
 
-pub over-fitted : (t : List ℕ) (n : ℕ) → n < length t → fitted t n ≡ TooSmall
+pub over-fitted : (m n : ℕ) → n < m → fitted m n ≡ TooSmall
 unfolding fitted
-over-fitted t n h = rw (lt-leb _ _ h)
-
-full-onto : (t s o : List ℕ) → length o ≤ length t → onto (t ++ s) o ≡ onto t o
-unfolding onto
-full-onto t s o h =
-    rw (take-append-le (length o) t s h, drop-of-length-le o {i = length t} h, drop-of-length-le o {i = length (t ++ s)} (omega (arith, length-append t s)))
+over-fitted m n h = rw (lt-leb _ _ h)
 
 pub length-onto : (t o : List ℕ) → length (onto t o) ≡ length o
 unfolding onto
@@ -43,65 +38,125 @@ pub or-longer : (m n : ℕ) → (m ≤ n) ⊎ (n < m)
 or-longer m n = or-longer-by m n (leb m n) refl
 
 -- A count is answered only of a text that fits, and is its length.
-pub fitted-bytes : (t : List ℕ) {n at : ℕ} → Bytes at ≡ fitted t n → (at ≡ length t) × (length t ≤ n)
-fitted-bytes t {n} {at} e =
+pub fitted-bytes : {m n at : ℕ} → Bytes at ≡ fitted m n → (at ≡ m) × (m ≤ n)
+fitted-bytes {m} {n} {at} e =
     ⊎-elim
-    (λ h. let f : fitted t n ≡ Bytes (length t) = fits-fitted t n h in let g : at ≡ length t = cc in (g, h))
-    (λ h. let f : fitted t n ≡ TooSmall = over-fitted t n h in let z : _≡_ {A = ℕ} 0 1 = cc in absurd (omega arith))
-    (or-longer (length t) n)
+    (λ h. let f : fitted m n ≡ Bytes m = fits-fitted m n h in let g : at ≡ m = cc in (g, h))
+    (λ h. let f : fitted m n ≡ TooSmall = over-fitted m n h in let z : _≡_ {A = ℕ} 0 1 = cc in absurd (omega arith))
+    (or-longer m n)
+
+-- ---- a text in two pieces
+
+nothing-onto : (o : List ℕ) → onto [] o ≡ o
+unfolding onto
+nothing-onto o = rw take-nil
+
+-- where the first fits, the second goes behind it
+onto-behind : (s t o : List ℕ) → length s ≤ length o → onto (s ++ t) o ≡ s ++ onto t (drop (length s) o)
+unfolding onto
+onto-behind s t o h =
+    let e : length o ≡ length s + length (drop (length s) o) = omega (arith, length-drop (length s) o) in
+    rw (e, take-append-add s t (length (drop (length s) o)), length-append s t, drop-drop (length t) (length s) o, append-assoc)
+
+-- where it does not, or just does, the second is left out
+full-onto : (s t o : List ℕ) → length o ≤ length s → onto (s ++ t) o ≡ onto s o
+unfolding onto
+full-onto s t o h =
+    rw (take-append-le (length o) s t h, drop-of-length-le o {i = length s} h, drop-of-length-le o {i = length (s ++ t)} (omega (arith, length-append s t)))
 
 -- ---- a byte
 
 module _ {out : List ℕ} (b : ℕ) where
   pub put-in : (at : ℕ) → at < length out → Appends (b ∷ []) out (Bytes at) (set out at b) (Bytes (at + 1))
+  unfolding behind reached
   put-in at l =
       record {
-        behind = λ o t h.
-            let f : at ≡ length t = fitted-bytes t (h .answer) .0 in
-            let n : length t < length o = omega (arith, length-onto t o, ap length (h .bytes)) in
-            let g : length (t ++ (b ∷ [])) ≡ length t + 1 = simp length-append in
-            record {
-              bytes = rw (h .bytes, f, fits-onto t o (omega arith), drop-cons o (length t) 0 n, set-append-seam, fits-onto (t ++ (b ∷ [])) o (omega arith), g, add-one, append-snoc);
-              answer = rw (f, fits-fitted (t ++ (b ∷ [])) (length o) (omega arith), g);
-            };
+        bytes = rw (set-split out at b l, fits-onto (b ∷ []) (drop at out) (omega (arith, length-drop at out)), drop-drop 1 at out, add-one);
+        answer = sym (fits-fitted (at + 1) (length out) (omega arith));
       }
 
   pub put-full : (at : ℕ) → length out ≤ at → Appends (b ∷ []) out (Bytes at) out TooSmall
+  unfolding behind reached onto
   put-full at l =
       record {
-        behind = λ o t h.
-            let f : at ≡ length t = fitted-bytes t (h .answer) .0 in
-            let n : length o ≤ length t = omega (arith, length-onto t o, ap length (h .bytes)) in
-            record {
-              bytes = rw (full-onto t (b ∷ []) o n) (h .bytes);
-              answer = sym (over-fitted (t ++ (b ∷ [])) (length o) (omega (arith, length-append t (b ∷ []))));
-            };
+        bytes = rw (take-all at out l, drop-of-length-le out {i = at} l, append-nil);
+        answer = sym (over-fitted (at + 1) (length out) (omega arith));
       }
 
   -- after a text that had no room nothing goes in
-  pub put-none : {w : Written} → ((at : ℕ) → w ≡ Bytes at → ⊥) → Appends (b ∷ []) out w out w
-  put-none l =
-      record {
-        behind = λ o t h.
-            ⊎-elim
-            (λ f. absurd (l (length t) (h .answer ∙ fits-fitted t (length o) f)))
-            (λ f. record {
-              bytes = rw (full-onto t (b ∷ []) o (omega arith)) (h .bytes);
-              answer = h .answer ∙ (over-fitted t (length o) f ∙ sym (over-fitted (t ++ (b ∷ [])) (length o) (omega (arith, length-append t (b ∷ [])))));
-            })
-            (or-longer (length t) (length o));
-      }
+  pub put-none : Appends (b ∷ []) out TooSmall out TooSmall
+  unfolding behind reached
+  put-none = record { bytes = refl; answer = refl }
 
 -- ---- a text piece by piece
 
--- nothing is written at first
-pub at-first : (out : List ℕ) → HoldsText out [] out (Bytes 0)
-unfolding onto fitted
-at-first out = record { bytes = rw take-nil; answer = rw (le-leb 0 (length out) (omega arith)) }
+nothing-behind : (w : Written) (out : List ℕ) → behind [] w out ≡ out
+unfolding behind
+nothing-behind (Bytes n) out = rw (nothing-onto (drop n out)) (take-append-drop n out)
+nothing-behind TooSmall out = refl
 
 pub nothing : {out : List ℕ} {w : Written} → Appends [] out w out w
-nothing {out} {w} = record { behind = λ o t h. subst (λ (s : List ℕ). HoldsText o s out w) (sym (append-nil t)) h }
+unfolding reached
+nothing {out} {w} = record { bytes = sym (nothing-behind w out); answer = refl }
+
+length-behind : (s : List ℕ) (w : Written) (out : List ℕ) → length (behind s w out) ≡ length out
+unfolding behind
+length-behind s (Bytes n) out = simp (length-append, length-onto, length-take, length-drop) (omega arith)
+length-behind s TooSmall out = refl
+
+reached-none : (t : List ℕ) (room : ℕ) → reached t TooSmall room ≡ TooSmall
+unfolding reached
+reached-none [] room = refl
+reached-none (c ∷ t) room = refl
+
+module _ (p t : List ℕ) (n : ℕ) where
+  behind-some : (out : List ℕ) → behind t (fitted (n + length p) (length out)) (behind p (Bytes n) out) ≡ behind (p ++ t) (Bytes n) out
+  unfolding behind
+  behind-some out =
+      ⊎-elim
+      (λ (h : n + length p ≤ length out).
+      let k : length (drop n out) ≡ length out - n = length-drop n out in
+      let m : length (take n out ++ p) ≡ n + length p = simp (length-append, length-take) (omega arith) in
+      let x : take n out ++ onto p (drop n out) ≡ (take n out ++ p) ++ drop (length p) (drop n out) = rw (fits-onto p (drop n out) (omega arith), append-assoc) in
+      rw (fits-fitted (n + length p) (length out) h, x, take-at (take n out ++ p) (drop (length p) (drop n out)) (n + length p) m, drop-at (take n out ++ p) (drop (length p) (drop n out)) (n + length p) m, onto-behind p t (drop n out) (omega arith), append-assoc))
+      (λ h. rw (over-fitted (n + length p) (length out) h, full-onto p t (drop n out) (omega (arith, length-drop n out))))
+      (or-longer (n + length p) (length out))
+
+  reached-fits : (u : List ℕ) (room : ℕ) → n + length p ≤ room → reached u (Bytes (n + length p)) room ≡ fitted (n + (length p + length u)) room
+  unfolding reached
+  reached-fits [] room h = sym (fits-fitted (n + length p) room h) ∙ ap (λ (k : ℕ). fitted k room) (omega arith)
+  reached-fits (c ∷ u) room h = ap (λ (k : ℕ). fitted k room) (omega arith)
+
+  reached-some : (room : ℕ) → reached t (fitted (n + length p) room) room ≡ fitted (n + length (p ++ t)) room
+  reached-some room =
+      ⊎-elim
+      (λ h. rw (fits-fitted (n + length p) room h, length-append p t) (reached-fits t room h))
+      (λ h. rw (over-fitted (n + length p) room h, over-fitted (n + length (p ++ t)) room (omega (arith, length-append p t))) (reached-none t room))
+      (or-longer (n + length p) room)
+
+behind-both : (s t : List ℕ) (w : Written) (out : List ℕ) → behind t (reached s w (length out)) (behind s w out) ≡ behind (s ++ t) w out
+unfolding behind reached
+behind-both [] t w out = rw (nothing-behind w out)
+behind-both (b ∷ s) t TooSmall out = refl
+behind-both (b ∷ s) t (Bytes n) out = behind-some (b ∷ s) t n out
+
+reached-both : (s t : List ℕ) (w : Written) (room : ℕ) → reached t (reached s w room) room ≡ reached (s ++ t) w room
+unfolding reached
+reached-both [] t w room = refl
+reached-both (b ∷ s) t TooSmall room = reached-none t room
+reached-both (b ∷ s) t (Bytes n) room = reached-some (b ∷ s) t n room
 
 infixr 40 _then_
 pub _then_ : {s t a b c : List ℕ} {u v w : Written} → Appends s a u b v → Appends t b v c w → Appends (s ++ t) a u c w
-_then_ {s} {t} {c = c} {w = w} f g = record { behind = λ o x h. subst (λ (y : List ℕ). HoldsText o y c w) (append-assoc x s t) (g .behind o (x ++ s) (f .behind o x h)) }
+_then_ {s} {t} {a} {u = u} f g =
+    record {
+      bytes = rw (g .bytes, f .answer, f .bytes) (behind-both s t u a);
+      answer = rw (g .answer, f .answer, f .bytes, length-behind s u a) (reached-both s t u (length a));
+    }
+
+-- ---- a whole text, from the front on
+
+pub whole : (s : List ℕ) {out out′ : List ℕ} {w : Written} → Appends s out (Bytes 0) out′ w → (out′ ≡ onto s out) × (w ≡ fitted (length s) (length out))
+unfolding behind reached
+whole [] {out} a = (a .bytes, a .answer ∙ sym (fits-fitted 0 (length out) (omega arith)))
+whole (b ∷ s) {out} a = (a .bytes, a .answer ∙ ap (λ (k : ℕ). fitted k (length out)) (omega arith))

@@ -33,23 +33,23 @@ module _ {v : ℤ} (f : SFits w64 v) (h : ltZ v (pos 0) ≡ true) where
   raised : SFits w64 (v +ℤ pos 1)
   raised = record { sfits = omega (arithZ, ltZ-true v (pos 0) h, sum v (pos 1), size v, size (v +ℤ pos 1), f .sfits) }
 
-  turned : SFits w64 (pos 0 -ℤ (v +ℤ pos 1))
-  turned = record { sfits = omega (arithZ, ltZ-true v (pos 0) h, sum v (pos 1), size v, diff (pos 0) (v +ℤ pos 1), size (pos 0 -ℤ (v +ℤ pos 1)), f .sfits) }
+  negated : SFits w64 (pos 0 -ℤ (v +ℤ pos 1))
+  negated = record { sfits = omega (arithZ, ltZ-true v (pos 0) h, sum v (pos 1), size v, diff (pos 0) (v +ℤ pos 1), size (pos 0 -ℤ (v +ℤ pos 1)), f .sfits) }
 
   pub raised-fits : SFits w64 (toZ w64 (ofZ w64 v) +ℤ pos 1)
   raised-fits = rw (back f) raised
 
-  pub turned-fits : SFits w64 (pos 0 -ℤ toZ w64 (ofZ w64 (toZ w64 (ofZ w64 v) +ℤ pos 1)))
-  turned-fits = rw (back f, back raised) turned
+  pub negated-fits : SFits w64 (pos 0 -ℤ toZ w64 (ofZ w64 (toZ w64 (ofZ w64 v) +ℤ pos 1)))
+  negated-fits = rw (back f, back raised) negated
 
   cast-is : toZ w64 (ofZ w64 (pos 0 -ℤ toZ w64 (ofZ w64 (toZ w64 (ofZ w64 v) +ℤ pos 1)))) ≡ pos 0 -ℤ (v +ℤ pos 1)
-  cast-is = rw (back f, back raised) (back turned)
+  cast-is = rw (back f, back raised) (back negated)
 
   pub cast-fits : T (nonNeg (toZ w64 (ofZ w64 (pos 0 -ℤ toZ w64 (ofZ w64 (toZ w64 (ofZ w64 v) +ℤ pos 1)))))) × Fits w64 (natAbs (toZ w64 (ofZ w64 (pos 0 -ℤ toZ w64 (ofZ w64 (toZ w64 (ofZ w64 v) +ℤ pos 1))))))
   cast-fits =
       rw cast-is (
         not-below (pos 0 -ℤ (v +ℤ pos 1)) (omega (arithZ, ltZ-true v (pos 0) h, sum v (pos 1), apart v, apart (v +ℤ pos 1), diff (pos 0) (v +ℤ pos 1), apart (pos 0 -ℤ (v +ℤ pos 1)))),
-        record { fits = omega (arithZ, abs-is (pos 0 -ℤ (v +ℤ pos 1)), size (pos 0 -ℤ (v +ℤ pos 1)), turned .sfits) },
+        record { fits = omega (arithZ, abs-is (pos 0 -ℤ (v +ℤ pos 1)), size (pos 0 -ℤ (v +ℤ pos 1)), negated .sfits) },
       )
 
   pub last-is : 1 + natAbs (toZ w64 (ofZ w64 (pos 0 -ℤ toZ w64 (ofZ w64 (toZ w64 (ofZ w64 v) +ℤ pos 1))))) ≡ natAbs v

@@ -12,8 +12,6 @@ pub enum Written {
     Bytes(usize),
     // The buffer is shorter than the text.
     TooSmall,
-    // What the text is made from is not all there; nothing is written.
-    FrontShort,
 }
 
 // Puts a byte behind the text so far. A byte that has no room is the end of it: all that follow are dropped too.

@@ -30,7 +30,7 @@ pub record Ticks (from to : ℕ) : Type 0 where
   pub small : to ≤ 1_000_000
 
 -- the finished list of an operand, n zones in the slot at `base`; the two slots behind it are free
-pub record Ready (ws : List ℤ) (base n : ℕ) : Type 0 where
+pub record OperandAt (ws : List ℤ) (base n : ℕ) : Type 0 where
   pub few : n ≤ capacity
   pub room : base + 3 * slot-words ≤ length ws
   pub sound : Sound (listAt ws base n)

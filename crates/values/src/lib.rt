@@ -22,7 +22,7 @@ ghost use Rattle.operators.specs.Listing.{BuiltAs};
 ghost use Rattle.expression.specs.Refusal.{Wrong};
 ghost use Rattle.expression.specs.Planted.{Right};
 ghost use Rattle.meaning.specs.Lists.{ended, longest, rangeBand, Closes, joinList, applied};
-ghost use Rattle.values.specs.Values.{EvaluatedAs, Ticks, Ready, most-rounds, Came, Carried};
+ghost use Rattle.values.specs.Values.{EvaluatedAs, Ticks, OperandAt, most-rounds, Came, Carried};
 
 // The words of two slots: how far behind its operands' slots a list is built.
 const TWO_SLOTS: usize = 2 * SLOT_WORDS;
@@ -65,7 +65,7 @@ pub fn combine(
     p: u64,
     right: Evaluated,
 ) -> Evaluated
-    requires { ⌜ (Ready (now work) base n) × (p ≤ most-rounds) × (Came Source (now work) (base + slot-words) right) ⌝ }
+    requires { ⌜ (OperandAt (now work) base n) × (p ≤ most-rounds) × (Came Source (now work) (base + slot-words) right) ⌝ }
     ensures value { λ r. ⌜ EvaluatedAs (Carried (λ B q v. v ≡ ended (joinList op (listAt (now (work .entry)) base n) B) (p + q)) (now (work .entry)) (base + slot-words) right) (now (work .exit)) base r ⌝ }
     ensures kept { λ _. ⌜ Kept base (3 * slot-words) (now (work .entry)) (now (work .exit)) ⌝ }
 {
@@ -119,7 +119,7 @@ fn banded(
     to: u32,
     rounds: u64,
 ) -> Evaluated
-    requires { ⌜ (Ready (now work) base n) × (Ticks from to) × (Wrong range → ⊥) ⌝ }
+    requires { ⌜ (OperandAt (now work) base n) × (Ticks from to) × (Wrong range → ⊥) ⌝ }
     ensures value { λ r. ⌜ EvaluatedAs (λ v. v ≡ ended (banded (rangeBand from to range) (listAt (now (work .entry)) base n)) rounds) (now (work .exit)) base r ⌝ }
     ensures kept { λ _. ⌜ Kept base (3 * slot-words) (now (work .entry)) (now (work .exit)) ⌝ }
 {
@@ -135,7 +135,7 @@ fn banded(
 
 // `*`: the rounds from the list in the slot at `base`, and then the diagonal, brought to `base`.
 fn star(work: &mut [i32], base: usize, n: usize, from: u32, to: u32, rounds: u64) -> Evaluated
-    requires { ⌜ (Ready (now work) base n) × (Ticks from to) × (rounds ≤ most-rounds) ⌝ }
+    requires { ⌜ (OperandAt (now work) base n) × (Ticks from to) × (rounds ≤ most-rounds) ⌝ }
     ensures value { λ r. ⌜ EvaluatedAs (Closes from to (listAt (now (work .entry)) base n) rounds) (now (work .exit)) base r ⌝ }
     ensures kept { λ _. ⌜ Kept base (3 * slot-words) (now (work .entry)) (now (work .exit)) ⌝ }
 {
@@ -162,7 +162,7 @@ pub fn apply(
     from: u32,
     to: u32,
 ) -> Evaluated
-    requires { ⌜ (Came Ready (now work) base operand) × (Ticks from to) × (Right op) ⌝ }
+    requires { ⌜ (Came OperandAt (now work) base operand) × (Ticks from to) × (Right op) ⌝ }
     ensures value { λ r. ⌜ EvaluatedAs (Carried (applied from to op) (now (work .entry)) base operand) (now (work .exit)) base r ⌝ }
     ensures kept { λ _. ⌜ Kept base (3 * slot-words) (now (work .entry)) (now (work .exit)) ⌝ }
 {

@@ -5,7 +5,7 @@ use borrow.Author.Needs.{needs}
 use Rattle.list.proofs.Slots.{kept-trans}
 use Rattle.expression.proofs.Laws.{planted-some}
 use Rattle.evaluation.proofs.Windows.{looks-ticks, few-channels}
-use Rattle.evaluation.proofs.Evaluator.{node-is, roomy, rest-falls, rest-few, room-left, room-right, room-three, room-second, kept-left, kept-right, kept-three, kept-one, operand-rounds, came-only, came-right, left-ready, point-done, letter-done, one-done, two-over-left, two-done}
+use Rattle.evaluation.proofs.Evaluator.{node-is, roomy, rest-falls, rest-few, room-left, room-right, room-three, room-second, kept-left, kept-right, kept-three, kept-one, operand-rounds, came-only, came-right, left-operand, point-done, letter-done, one-done, two-over-left, two-done}
 use Prim.Native.Nat.{ℕ, _<_}
 use borrow.Fn.Kinds.{In}
 use borrow.Fn.PlainCycle.{Measures, is, falls, and}
@@ -108,7 +108,7 @@ pub +evaluate-spec : {M : Type 1} → statement M
     let o = c .before .before .before .before .before .before .before .before .before .before .before .before .before .before .before .before in
     let s = node-is _ (m .before .before .node-at .ensures) (m .op2 .given .1) (o .pre .1 .1 .planted) in
     let v = rw (the-n .given .1) at (the-evaluate2 .ensures .0 (s .0) (s .3)) in (
-      left-ready (o .pre .1 .0) (s .0) _ v (the-evaluate3 .ensures .1) (roomy (the-evaluate2 .ensures .1) (room-three (planted-some (o .pre .1 .1 .planted)) _ (o .pre .1 .3))),
+      left-operand (o .pre .1 .0) (s .0) _ v (the-evaluate3 .ensures .1) (roomy (the-evaluate2 .ensures .1) (room-three (planted-some (o .pre .1 .1 .planted)) _ (o .pre .1 .3))),
       operand-rounds (o .pre .1 .0) (s .0) v (s .3) (rest-few (o .pre .1 .2)),
       came-right (o .pre .1 .0) (s .1) _ _ (s .4) (rest-few (o .pre .1 .2)) (roomy (the-evaluate3 .ensures .1) (roomy (the-evaluate2 .ensures .1) (room-second (planted-some (o .pre .1 .1 .planted)) _ (o .pre .1 .3)))) (the-evaluate3 .result) (the-evaluate3 .ensures .0 (s .1) (s .4)),
     ))

@@ -1,6 +1,6 @@
 -- `text::magnitude`: below 0, and not.
 use borrow.Author.Needs.{needs}
-use Rattle.text.proofs.Signed.{test-back, raised-fits, turned-fits, cast-fits, last-is, last-fits, plain-fits}
+use Rattle.text.proofs.Signed.{test-back, raised-fits, negated-fits, cast-fits, last-is, last-fits, plain-fits}
 use Rattle.text.proofs.magnitude.Statement.{statement}
 use Rattle.text.proofs.magnitude.Tie as tie
 
@@ -8,7 +8,7 @@ add-result : tie.Need-add-result
 add-result c = raised-fits (c .before .fits .v) (test-back (c .before .fits .v) (c .if1 .taken))
 
 sub-result : tie.Need-sub-result
-sub-result c = turned-fits (c .before .fits .v) (test-back (c .before .fits .v) (c .if1 .taken))
+sub-result c = negated-fits (c .before .fits .v) (test-back (c .before .fits .v) (c .if1 .taken))
 
 cast-result : tie.Need-cast-result
 cast-result c = cast-fits (c .before .fits .v) (test-back (c .before .fits .v) (c .if1 .taken))
