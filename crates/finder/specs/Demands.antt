@@ -7,7 +7,7 @@ use lib.IntN.{ℤ}
 use lib.ListN.{length}
 use Rattle.limit.specs.Time.{Time}
 use Rattle.zone.specs.declared.Zone.{Zone}
-use Rattle.zone.specs.Zone.{In, Includes}
+use Rattle.zone.specs.Zone.{In, Stretch, Includes}
 use Rattle.star.specs.Pieces.{Pieces}
 use Rattle.list.specs.Members.{Lies, AllProper}
 use Rattle.list.specs.Slots.{listAt}
@@ -17,7 +17,7 @@ use Rattle.recording.specs.declared.Level.{Level}
 use Rattle.expression.specs.declared.Unary.the-variants.{Star}
 use Rattle.expression.specs.Expression.{Expression, unary}
 use Rattle.expression.specs.Grammar.{Form, alternative}
-use Rattle.meaning.specs.Satisfies.{Stretch, Satisfies}
+use Rattle.meaning.specs.Satisfies.{Satisfies}
 use Rattle.meaning.specs.Lists.{repeated, RoundsOf, Sum}
 use Rattle.finder.specs.Outcome.{Outcome, RecordingLength, RecordingHead, RecordingChange, DrillLength, DrillForm, DrillLetter, DrillRange, DrillDepth, Overflow, returned, Cause, First, NoCause, frontOf, FindAs}
 

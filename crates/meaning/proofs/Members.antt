@@ -9,7 +9,7 @@ use Rattle.zone.specs.declared.Zone.{Zone}
 use Rattle.zone.specs.declared.MaybeZone.{MaybeZone}
 use Rattle.zone.specs.declared.MaybeZone.the-variants.{Zone as zone}
 use Rattle.limit.specs.Limit.{Within}
-use Rattle.zone.specs.Zone.{In, InMaybe, run, diagonal}
+use Rattle.zone.specs.Zone.{In, InMaybe, Stretch, run, diagonal}
 use Rattle.limit.proofs.Times.{≤-trans, ≤-total, tick-≤}
 use Rattle.zone.proofs.Laws.{run-members, diagonal-members, band-members, whole-most}
 use Rattle.list.specs.Insert.{listed, insert-each}
@@ -29,7 +29,7 @@ use Rattle.expression.specs.declared.Upper.the-variants.{Endless, UpTo}
 use Rattle.expression.specs.declared.Join.the-variants.{Union, Intersection, Concatenation}
 use Rattle.expression.specs.declared.Unary.the-variants.{Star, Band}
 use Rattle.expression.specs.Expression.{Expression, epsilon, literal, join, unary}
-use Rattle.meaning.specs.Satisfies.{Stretch, Throughout, NoLonger, Lasts, levelOf, Satisfies}
+use Rattle.meaning.specs.Satisfies.{Throughout, NoLonger, Lasts, levelOf, Satisfies}
 use Rattle.meaning.specs.Lists.{value, runZones, Letter, longest, shortest, rangeBand, Evaluates}
 use Rattle.meaning.proofs.Strict.{≤-<-trans, <-≤-trans, tick-<, floor, floor-≤, floor-<}
 use Rattle.meaning.proofs.Meaning.{pieces-forward, satisfies-forward}
@@ -37,8 +37,7 @@ use Rattle.meaning.proofs.Evaluation.{FiniteVariability, listed-of, the
 
 -- what lies in a list of proper zones is inside from..to
 lies-inside : {from to : ℕ} {L : List Zone} {x y : Time} → AllProper from to L → Lies L x y → Stretch from to x y
-lies-inside {x = x} {y = y} h l =
-    let i = h (l .in-zone) (l .among) .inside .inside x y (l .member) in record { after = i .0; forward = i .1; before = i .2 }
+lies-inside {x = x} {y = y} h l = h (l .in-zone) (l .among) .inside .inside x y (l .member)
 
 -- ---- a letter
 
@@ -52,15 +51,15 @@ module _ {P : ℕ → Type 0} {from to : ℕ} (runs : (rs : List Run) × Complet
 
       k : Held (runs .0) (floor x)
       k =
-          let a = tick-< (≤-<-trans (s .after) (floor-< x)) in
-          runs .1 .covers (floor x) (omega arith) (tick-< (<-≤-trans begins (s .before))) (h .each (floor x) (floor-< x) begins)
+          let a = tick-< (≤-<-trans (s .0) (floor-< x)) in
+          runs .1 .covers (floor x) (omega arith) (tick-< (<-≤-trans begins (s .2))) (h .each (floor x) (floor-< x) begins)
 
       -- else the tick at its end would be overlapped too, and so be part of it
       ends : y ≤ᵀ tick (k .holder .end)
       ends =
           let m = runs .1 .runs .each (k .holder) (k .listed) in
           let next : x <ᵀ tick (suc (k .holder .end)) = <-≤-trans (floor-< x) (tick-≤ (let d = k .before in omega arith)) in
-          ⊎-elim (λ q. q) (λ q. absurd (m .right (tick-< (<-≤-trans q (s .before))) (h .each (k .holder .end) next q))) (≤-total y (tick (k .holder .end)))
+          ⊎-elim (λ q. q) (λ q. absurd (m .right (tick-< (<-≤-trans q (s .2))) (h .each (k .holder .end) next q))) (≤-total y (tick (k .holder .end)))
 
   letter-members : {L : List Zone} {t : ℕ} {x y : Time} → Letter P from to (value L t) → Stretch from to x y → Lies L x y ↔ Throughout P x y
   letter-members {L} {t} {x} {y} p s =
@@ -82,7 +81,7 @@ module _ {P : ℕ → Type 0} {from to : ℕ} (runs : (rs : List Run) × Complet
 
 -- "a missing hi" asks nothing of a stretch inside from..to
 longest-is : (hi : Upper) {from to : ℕ} {x y : Time} → from ≤ to → Stretch from to x y → Within (longest from to hi) y x ↔ NoLonger hi x y
-longest-is Endless h s = (λ _. tt, λ _. whole-most h (s .after) (s .forward) (s .before))
+longest-is Endless h s = (λ _. tt, λ _. whole-most h (s .0) (s .1) (s .2))
 longest-is (UpTo hi) h s = (λ w. w, λ w. w)
 
 -- The band handed to the zone layer is document 01's: of the stretches inside from..to it holds those with lo ≤ end − start ≤ hi.
@@ -90,7 +89,7 @@ pub range-band : (r : Range) {from to : ℕ} {x y : Time} → from ≤ to → St
 range-band r {from} {to} {x} {y} h s =
     let b = band-members from to (longest from to (r .hi)) (shortest (r .lo)) x y in
     let l = longest-is (r .hi) h s in
-    (λ i. let m = b .0 i in (m .2, l .0 (m .1)), λ i. b .1 ((s .after, s .forward, s .before), l .1 (i .1), i .0))
+    (λ i. let m = b .0 i in (m .2, l .0 (m .1)), λ i. b .1 (s, l .1 (i .1), i .0))
 
 -- ---- pieces
 
@@ -107,8 +106,8 @@ module _ {P Q : Time → Time → Type 0} where
   pieces-inside fw f {y = y} s (more {t = t} ps p) =
       let a = pieces-forward fw ps in
       let b = fw t y p in
-      more (pieces-inside fw f (record { after = s .after; forward = a; before = ≤-trans b (s .before) }) ps)
-      (f t y (record { after = ≤-trans (s .after) a; forward = b; before = s .before }) p)
+      more (pieces-inside fw f (s .0, a, ≤-trans b (s .2)) ps)
+      (f t y (≤-trans (s .0) a, b, s .2) p)
 
 -- where a list of proper zones holds the stretches of a kind, it is cut into pieces as they are
 pieces-iff : {from to : ℕ} {A : List Zone} {S : Time → Time → Type 0} → AllProper from to A → ((u v : Time) → S u v → u ≤ᵀ v)
@@ -125,7 +124,7 @@ module _ (Shows : ℕ → Level → ℕ → Type 0) {from to : ℕ} (finite : Fi
       let b = listed-of (insert-each (zone (diagonal from to) ∷ []) []) p .0 in
       let d = diagonal-members from to x y in
       Iff·trans (built-lies (zone (diagonal from to) ∷ []) b x y)
-      (Iff·trans (offered-one (diagonal from to) x y) (λ i. d .0 i .1, λ e. d .1 (s .after, e, s .before)))
+      (Iff·trans (offered-one (diagonal from to) x y) (λ i. d .0 i .1, λ e. d .1 (s .0, e, s .2)))
   members (literal a k) t p x y s = letter-members (finite k (levelOf a)) p s
   members (join Union e f) t p x y s =
       let q = both-parts unite p in
@@ -144,11 +143,11 @@ module _ (Shows : ℕ → Level → ℕ → Type 0) {from to : ℕ} (finite : Fi
       Iff·trans (compositions-lies (q .one) (q .two) u v (q .built) x y) (
         λ l. let i = lies-inside u (l .1) in
             let j = lies-inside v (l .2) in
-            (l .0, i .forward, j .forward, members e _ (q .first) x (l .0) i .0 (l .1), members f _ (q .second) (l .0) y j .0 (l .2)),
+            (l .0, i .1, j .1, members e _ (q .first) x (l .0) i .0 (l .1), members f _ (q .second) (l .0) y j .0 (l .2)),
         λ h. (
           h .0,
-          members e _ (q .first) x (h .0) (record { after = s .after; forward = h .1; before = ≤-trans (h .2) (s .before) }) .1 (h .3),
-          members f _ (q .second) (h .0) y (record { after = ≤-trans (s .after) (h .1); forward = h .2; before = s .before }) .1 (h .4),
+          members e _ (q .first) x (h .0) (s .0, h .1, ≤-trans (h .2) (s .2)) .1 (h .3),
+          members f _ (q .second) (h .0) y (≤-trans (s .0) (h .1), h .2, s .2) .1 (h .4),
         ),
       )
   members (unary Star e) t p x y s =
@@ -156,7 +155,7 @@ module _ (Shows : ℕ → Level → ℕ → Type 0) {from to : ℕ} (finite : Fi
       let c = closes-parts (q .3) in
       let w = evaluates-well Shows order e _ (q .2) .proper in
       let i = pieces-iff w (satisfies-forward Shows e) (members e _ (q .2)) s in
-      Iff·trans (star-lies (c .1) w x y (s .after) (s .before)) (λ l. (l .0, i (l .0) .0 (l .1)), λ h. (h .0, i (h .0) .1 (h .1)))
+      Iff·trans (star-lies (c .1) w x y (s .0) (s .2)) (λ l. (l .0, i (l .0) .0 (l .1)), λ h. (h .0, i (h .0) .1 (h .1)))
   members (unary (Band r) e) t p x y s =
       let q = then-parts p in
       let a = members e _ (q .2) x y s in

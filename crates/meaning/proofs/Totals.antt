@@ -8,7 +8,7 @@ use lib.ListN.{length, length-append}
 use Rattle.limit.specs.Time.{Time}
 use Rattle.zone.specs.declared.Zone.{Zone}
 use Rattle.zone.specs.declared.MaybeZone.the-variants.{Zone as zone}
-use Rattle.zone.specs.Zone.{diagonal}
+use Rattle.zone.specs.Zone.{Stretch, diagonal}
 use Rattle.list.specs.Insert.{capacity, insert-each}
 use Rattle.operators.specs.Operators.{banded}
 use Rattle.star.specs.Star.{finished, Star as Stars}
@@ -17,7 +17,7 @@ use Rattle.star.proofs.Theorems.{star-lies, star-unique, star-bound, star-piece
 use Rattle.recording.specs.declared.Level.{Level}
 use Rattle.expression.specs.declared.Unary.the-variants.{Star, Band}
 use Rattle.expression.specs.Expression.{Expression, epsilon, literal, join, unary, depth}
-use Rattle.meaning.specs.Satisfies.{Stretch, Satisfies}
+use Rattle.meaning.specs.Satisfies.{Satisfies}
 use Rattle.meaning.specs.Lists.{value, rangeBand, joinList, Evaluates, repeated, RoundsOf, Sum, Sum.none, Sum.also}
 use Rattle.meaning.proofs.Evaluation.{FiniteVariability, listed-of, letter-parts, then-parts, both-parts, closes-parts, evaluates-unique, evaluates-well}
 use Rattle.meaning.proofs.Members.{pieces-members}
@@ -84,7 +84,7 @@ module _ (Shows : ℕ → Level → ℕ → Type 0) {from to : ℕ} (some : from
       let order : from ≤ to = omega arith in
       let i = pieces-members Shows finite order f _ (w .list) s in
       let a = evaluates-well Shows order f _ (w .list) .proper in
-      let l = star-lies (w .star) a x y (s .after) (s .before) .1 (h .0, i (h .0) .1 (h .1)) in
+      let l = star-lies (w .star) a x y (s .0) (s .2) .1 (h .0, i (h .0) .1 (h .1)) in
       let c = star-pieces a some (w .star) x y l in
       (c .0, c .1, i (c .0) .0 (c .2))
 

@@ -16,12 +16,6 @@ use Rattle.expression.specs.declared.Join.the-variants.{Union, Intersection, Co
 use Rattle.expression.specs.declared.Unary.the-variants.{Star, Band}
 use Rattle.expression.specs.Expression.{Expression, epsilon, literal, join, unary}
 
--- "A stretch has start ≤ end, both in 0 to d": of ticks from..to
-pub record Stretch (from to : ℕ) (x y : Time) : Type 0 where
-  pub after : tick from ≤ᵀ x
-  pub forward : x ≤ᵀ y
-  pub before : y ≤ᵀ tick to
-
 -- "start < end, and the channel is high in each tick that the open stretch overlaps": of what is said of a tick
 pub record Throughout (P : ℕ → Type 0) (x y : Time) : Type 0 where
   pub some : x <ᵀ y

@@ -9,7 +9,7 @@ use Rattle.limit.specs.Time.{Time, origin, tick, _≤ᵀ_, _<ᵀ_, _≈ᵀ_}
 use Rattle.limit.specs.declared.Limit.{Limit}
 use Rattle.limit.specs.declared.Limit.the-variants.{AtMost, Below}
 use Rattle.limit.specs.Limit.{Within, _≤ᴸ_, _⊕_, nought}
-use Rattle.zone.specs.Zone.{Zone, In, InMaybe, Between, run, diagonal, everything, limited, band}
+use Rattle.zone.specs.Zone.{Zone, In, InMaybe, Stretch, run, diagonal, everything, limited, band}
 use Rattle.limit.proofs.Linear.{up, dn, un, lin-le, sum-ud, sum-un}
 use Rattle.limit.proofs.Order.{≤-trans, lesser-l, lesser-r, lesser-of}
 use Rattle.limit.proofs.Common.{within-widen, within-through, within-≤, within-<, within-to, within-from}
@@ -88,7 +88,7 @@ module _ (from to : ℕ) where
 
   -- ---- all stretches
 
-  pub everything-members : (x y : Time) → In (everything from to) x y ↔ Between from to x y
+  pub everything-members : (x y : Time) → In (everything from to) x y ↔ Stretch from to x y
   unfolding everything
   everything-members x y = (
     λ h. (within-from from x .0 (h .nstart), within-≤ x y .0 (h .nlength), within-to to y .0 (h .end)),
@@ -149,7 +149,7 @@ module _ (from to : ℕ) where
       },
     )
 
-    pub band-members : (x y : Time) → InMaybe (band from to longest shortest) x y ↔ (Between from to x y × Within longest y x × Within shortest x y)
+    pub band-members : (x y : Time) → InMaybe (band from to longest shortest) x y ↔ (Stretch from to x y × Within longest y x × Within shortest x y)
     unfolding band
     band-members x y =
         let t = tighten-is x y (limited (everything from to) longest shortest) in

@@ -13,7 +13,7 @@ use Rattle.limit.specs.Time.{Time, origin, tick, difference, scaled, _≤ᵀ_, 
 use Rattle.limit.specs.declared.Limit.{Limit}
 use Rattle.limit.specs.declared.Limit.the-variants.{AtMost, Below}
 use Rattle.limit.specs.Limit.{Within, _≤ᴸ_, nought, most}
-use Rattle.zone.specs.Zone.{Zone, MaybeZone, zone, empty, In, InMaybe, Proper, Side, limit, upper, lower, Keeps, Loses, Tight, TightMaybe, tighten, meet, compose, contains, Includes, Between, across, run, diagonal, everything, band, Ranged}
+use Rattle.zone.specs.Zone.{Zone, MaybeZone, zone, empty, In, InMaybe, Proper, Side, limit, upper, lower, Keeps, Loses, Tight, TightMaybe, tighten, meet, compose, contains, Includes, Stretch, across, run, diagonal, everything, band, Ranged}
 use Rattle.limit.proofs.Linear.{up, dn, sum-ud}
 use Rattle.limit.proofs.Order as order
 use Rattle.limit.proofs.Times as times
@@ -260,11 +260,11 @@ run-members from to = run-means from to refl .members
 pub diagonal-members : (from to : ℕ) (x y : Time) → In (diagonal from to) x y ↔ ((tick from ≤ᵀ x) × (x ≈ᵀ y) × (y ≤ᵀ tick to))
 diagonal-members from to = diagonal-means from to refl .members
 
-pub everything-members : (from to : ℕ) (x y : Time) → In (everything from to) x y ↔ Between from to x y
+pub everything-members : (from to : ℕ) (x y : Time) → In (everything from to) x y ↔ Stretch from to x y
 everything-members from to = everything-means from to refl .members
 
 pub band-members : (from to : ℕ) (longest shortest : Limit) (x y : Time)
-    → InMaybe (band from to longest shortest) x y ↔ (Between from to x y × Within longest y x × Within shortest x y)
+    → InMaybe (band from to longest shortest) x y ↔ (Stretch from to x y × Within longest y x × Within shortest x y)
 band-members from to longest shortest = band-means from to longest shortest refl .members
 
 pub proper-run : {from to : ℕ} (s e : ℕ) → from ≤ s → s < e → e ≤ to → Proper from to (run s e)

@@ -29,12 +29,12 @@ InMaybe (zone z) x y = In z x y
 InMaybe empty x y = ⊥
 
 -- "A stretch has start ≤ end, both in 0 to d": of ticks from..to
-abbrev pub Between : ℕ → ℕ → Time → Time → Type 0
-Between from to x y = (tick from ≤ᵀ x) × (x ≤ᵀ y) × (y ≤ᵀ tick to)
+abbrev pub Stretch : ℕ → ℕ → Time → Time → Type 0
+Stretch from to x y = (tick from ≤ᵀ x) × (x ≤ᵀ y) × (y ≤ᵀ tick to)
 
 -- every member is a stretch of ticks from..to
 pub record Inside (from to : ℕ) (z : Zone) : Type 0 where
-  pub inside : (x y : Time) → In z x y → Between from to x y
+  pub inside : (x y : Time) → In z x y → Stretch from to x y
 
 -- every member of w is one of z: w lies inside z
 abbrev pub Includes : Zone → Zone → Type 0
@@ -262,10 +262,10 @@ pub record IsDiagonal (from to : ℕ) (z : Zone) : Type 0 where
 
 -- all stretches: "start ≤ end, both in 0 to d"
 pub record IsEverything (from to : ℕ) (z : Zone) : Type 0 where
-  pub members : (x y : Time) → In z x y ↔ Between from to x y
+  pub members : (x y : Time) → In z x y ↔ Stretch from to x y
   pub tight : from ≤ to → Tight z
 
 -- a band: "also lo ≤ end − start ≤ hi"
 pub record IsBand (from to : ℕ) (longest shortest : Limit) (r : MaybeZone) : Type 0 where
-  pub members : (x y : Time) → InMaybe r x y ↔ (Between from to x y × Within longest y x × Within shortest x y)
+  pub members : (x y : Time) → InMaybe r x y ↔ (Stretch from to x y × Within longest y x × Within shortest x y)
   pub tight : TightMaybe r
