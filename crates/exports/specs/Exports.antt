@@ -4,8 +4,8 @@ use mathlib.Core.List.{List, _∷_}
 use Prim.Native.Nat.{ℕ}
 use lib.IntN.{ℤ}
 use lib.ListN.{drop}
-use Rattle.finder.specs.declared.Outcome.{Outcome}
-use Rattle.finder.specs.Outcome.{returned}
+use Rattle.outcome.specs.declared.Outcome.{Outcome}
+use Rattle.outcome.specs.Outcome.{returned}
 use Rattle.finder.specs.Demands.{Demand1, Demand2, Demand3}
 
 -- a call was made: its number is answered, its zones and rounds are the first two counts, and the demands hold

@@ -1,8 +1,8 @@
-// The finder for programs in other languages: its calls on numbers and slices alone, with what `finder` promises of them.
+// The finder for programs in other languages: its calls on numbers and slices alone, with what `finder` and `outcome` promise of them.
 ghost use mathlib.Core.Path.{_≡_};
 ghost use Prim.Native.Nat.{_≤_, _<_};
 ghost use lib.ListN.{length};
-ghost use Rattle.finder.specs.Outcome.{frontOf};
+ghost use Rattle.outcome.specs.Outcome.{frontOf};
 ghost use Rattle.exports.specs.Exports.{Called, Uncalled};
 
 // What no refusal has for its number: no call was made.
@@ -31,11 +31,11 @@ pub extern "C" fn zikpasho_find(
     told.number
 }
 
-// The number of words of `finder::front`, which starts where the answer does.
+// The number of words of `outcome::front`, which starts where the answer does.
 #[no_mangle]
 pub extern "C" fn zikpasho_front(answer: &[i32], zones: usize) -> usize
     ensures { λ r. ⌜ r ≡ length (frontOf (now (answer .entry)) zones) ⌝ }
 {
-    let front = finder::front(answer, zones);
+    let front = outcome::front(answer, zones);
     front.len()
 }

@@ -3,7 +3,6 @@ use mathlib.Core.Path.{_≡_, refl, sym, subst, _∙_}
 use mathlib.Core.List.{List, [], _∷_, _++_, append-assoc}
 use Prim.Native.Nat.{ℕ, _+_, _*_, _≤_, _<_}
 use native.Mathlib.Omega.{arith}
-use borrow.Author.Tests.{le-leb, lt-leb}
 use lib.IntN.{ℤ, pos}
 use lib.ListN.{length, drop, length-append, length-drop, List·getD-append}
 use lib.Seq.{take-at, getD-append-add}
@@ -12,7 +11,8 @@ use Rattle.words.specs.Words.{zone-words, word, codes}
 use Rattle.words.proofs.Words.{zone-of-codes}
 use Rattle.list.specs.Slots.{listAt}
 use Rattle.delivery.specs.Buffers.{words, fronted}
-use Rattle.finder.specs.Outcome.{frontOf}
+use Rattle.outcome.specs.Outcome.{frontOf}
+use Rattle.outcome.proofs.Fronts.{front-filled}
 
 -- Six words a zone.
 pub words-length : (L : List Zone) → length (words L) ≡ length L * zone-words
@@ -25,18 +25,13 @@ pub fronted-length : (vs ws : List ℤ) → length vs ≤ length ws → length (
 unfolding fronted
 fronted-length vs ws h = simp (length-append, length-drop) (omega arith)
 
--- Told the number of zones, the front of the answer holds exactly the words of the listed zones ..
+-- Told the number of zones, the front of the answer holds exactly the words of the listed zones.
 pub front-words : (L : List Zone) (answer : List ℤ) → length L * zone-words ≤ length answer → frontOf (fronted (words L) answer) (length L) ≡ words L
-unfolding frontOf fronted
+unfolding fronted
 front-words L answer h =
     let n = words-length L in
     let k : length L * zone-words ≤ length (fronted (words L) answer) = subst (λ (m : ℕ). length L * zone-words ≤ m) (sym (fronted-length (words L) answer (omega arith))) h in
-    rw (le-leb (length L * zone-words) (length (words L ++ drop (length (words L)) answer)) k) (take-at (words L) (drop (length (words L)) answer) (length L * zone-words) n)
-
--- .. and told more zones than the buffer can hold, nothing.
-pub front-empty : (answer : List ℤ) (zones : ℕ) → length answer < zones * zone-words → frontOf answer zones ≡ []
-unfolding frontOf
-front-empty answer zones h = rw (lt-leb (zones * zone-words) (length answer) h)
+    front-filled (fronted (words L) answer) (length L) k ∙ take-at (words L) (drop (length (words L)) answer) (length L * zone-words) n
 
 front-at : (us cs ws : List ℤ) (k : ℕ) → k < length cs → word (us ++ (cs ++ ws)) (length us + k) ≡ word cs k
 front-at us cs ws k h = getD-append-add us (cs ++ ws) k (pos 0) ∙ List·getD-append cs ws (pos 0) k h

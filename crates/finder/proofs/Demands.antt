@@ -3,9 +3,10 @@ use mathlib.Core.Path.{_≡_, subst}
 use mathlib.Core.List.{List}
 use Prim.Native.Nat.{ℕ}
 use lib.IntN.{ℤ}
+use Rattle.outcome.proofs.Numbers.{zero-finished}
 use Rattle.finder.specs.Outcome.{Outcome, Finished, returned, CallAs, FindAs}
 use Rattle.finder.specs.Demands.{Demand1, Demand2, Demand3, Total, NoInputCause}
-use Rattle.finder.proofs.Causes.{zero-finished, call-unique, number-first, number-none}
+use Rattle.finder.proofs.Causes.{call-unique, number-first, number-none}
 use Rattle.finder.proofs.Comes.{finishes-once}
 use Rattle.finder.proofs.Outcomes.{call-exists}
 use Rattle.finder.proofs.Calls.{call-exact, call-bounded, inputs-bounded, total-unique, find-unique}

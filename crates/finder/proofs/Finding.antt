@@ -1,5 +1,5 @@
 -- From what the steps of a call answer to the whole call.
-use mathlib.Core.Path.{_≡_, refl, ap, subst}
+use mathlib.Core.Path.{_≡_, refl, sym, ap, subst, _∙_}
 use mathlib.Core.List.{List, _++_}
 use Prim.Native.Nat.{ℕ, _<_}
 use native.Mathlib.Omega.{arith}
@@ -12,13 +12,18 @@ use Rattle.recording.specs.declared.Reading.the-variants.{Recorded}
 use Rattle.recording.proofs.Refusals.{read-numbers, read-end}
 use Rattle.expression.specs.Expression.{Expression}
 use Rattle.expression.specs.Refusal.{Accepted, DrillRefused}
+use Rattle.parser.specs.declared.Parsed.{Parsed}
+use Rattle.parser.specs.declared.Parsed.the-variants.{Root, WrongLength, NoForm, WrongLetter, WrongRange, TooDeep}
+use Rattle.parser.specs.Parsing.{ParsedAs}
 use Rattle.meaning.specs.Lists.{Value, value, overflow, Evaluates}
 use Rattle.delivery.specs.declared.Worked.{Worked}
 use Rattle.delivery.specs.declared.Worked.the-variants.{WorkShort, Overflow, AnswerShort, Finished}
-use Rattle.finder.specs.Outcome.{Outcome, Finished, largest, both, leaves, returned, Comes, CallAs, FindAs}
+use Rattle.finder.specs.declared.Drill.{Drill}
+use Rattle.finder.specs.declared.Drill.the-variants.{Root, Refused}
+use Rattle.finder.specs.Outcome.{Outcome, DrillLength, DrillForm, DrillLetter, DrillRange, DrillDepth, Finished, largest, both, leaves, returned, Comes, CallAs, FindAs}
 use Rattle.finder.specs.Demands.{Demand1, Demand2, Demand3}
 use Rattle.delivery.specs.Working.{WorkedAs}
-use Rattle.finder.specs.Steps.{outcomeOf}
+use Rattle.finder.specs.Steps.{drillOf, outcomeOf}
 use Rattle.finder.proofs.Demands.{demand-1, demand-2, demand-3}
 use Rattle.finder.proofs.Outcomes.{Without, recordings, drills, recording-call, drill-call, drill-none, work-call, overflow-call, answer-call, accepted-call}
 
@@ -47,11 +52,27 @@ module _ (bytes : List ℕ) (size : Dimensions) (read : ReadingAs largest bytes 
     none = recording-call bytes text (length answer) (length work) (Recorded size) read
 
     -- A drill that is refused.
-    pub drill-refused : (o : Outcome) → leaves o ≡ both → 0 < returned o .number → DrillRefused text (size .channels) (returned o .number)
+    drill-refused : (o : Outcome) → leaves o ≡ both → 0 < returned o .number → DrillRefused text (size .channels) (returned o .number)
         → FindAs bytes text answer work o answer work
     drill-refused o e h f = untouched e (drill-call bytes text (length answer) (length work) none o h (rw same-channels at f))
 
-    -- One that is accepted and worked out.
+    -- What the parser answers is the tree of the drill, or decides the call.
+    abbrev pub DrillAs : List ℕ → Drill → Type 0
+    DrillAs nodes (Root n) = ParsedAs text (size .channels) nodes (Root n)
+    DrillAs nodes (Refused o) = FindAs bytes text answer work o answer work
+
+    drill-as : (nodes : List ℕ) (p : Parsed) → ParsedAs text (size .channels) nodes p → DrillAs nodes (drillOf p)
+    drill-as nodes (Root n) h = h
+    drill-as nodes WrongLength h = drill-refused DrillLength refl (omega arith) h
+    drill-as nodes NoForm h = drill-refused DrillForm refl (omega arith) h
+    drill-as nodes WrongLetter h = drill-refused DrillLetter refl (omega arith) h
+    drill-as nodes WrongRange h = drill-refused DrillRange refl (omega arith) h
+    drill-as nodes TooDeep h = drill-refused DrillDepth refl (omega arith) h
+
+    pub drill-read : (nodes : List ℕ) (p : Parsed) {d k : Drill} → ParsedAs text (size .channels) nodes p → d ≡ drillOf p → d ≡ k → DrillAs nodes k
+    drill-read nodes p h e f = subst (DrillAs nodes) (sym e ∙ f) (drill-as nodes p h)
+
+    -- A drill that is accepted and worked out.
     module _ {e : Expression} (a : Accepted text (size .channels) e) where
       ruled-out : Without bytes text (length answer) (length work) (recordings ++ drills)
       ruled-out = drill-none bytes text (length answer) (length work) none (subst (λ (c : ℕ). Accepted text c e) same-channels a)

@@ -2,8 +2,8 @@
 use mathlib.Core.Path.{_≡_}
 use mathlib.Core.List.{List, _∷_, _++_, List·Memᴰ}
 use Prim.Native.Nat.{ℕ}
-use Rattle.finder.specs.declared.Outcome.{Outcome}
-use Rattle.finder.specs.declared.Outcome.the-variants.{Finished}
+use Rattle.outcome.specs.declared.Outcome.{Outcome}
+use Rattle.outcome.specs.declared.Outcome.the-variants.{Finished}
 
 -- "Each is given when its cause holds and no earlier one does": o's place in the list of causes
 pub record First (causes : List Outcome) (Cause : Outcome → Type 0) (o : Outcome) : Type 0 where

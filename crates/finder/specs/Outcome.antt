@@ -1,12 +1,8 @@
--- "Turned back": what each outcome returns and leaves, which one a call of `find` has, and what both buffers hold afterwards.
-use mathlib.Core.Path.{_≡_}
-use mathlib.Core.Bool.{cond}
+-- "Turned back": which outcome a call of `find` has, and what both buffers hold afterwards. What each outcome returns and leaves is in `outcome`.
 use mathlib.Core.List.{List, [], _∷_}
-use Prim.Native.Nat.{ℕ, _*_, _<_}
-use lib.Dec.{leb}
+use Prim.Native.Nat.{ℕ, _<_}
 use lib.IntN.{ℤ}
-use lib.ListN.{length, take}
-use Rattle.words.specs.Words.{zone-words}
+use lib.ListN.{length}
 use Rattle.recording.specs.Reading.{ticks, channels, RecordingCause}
 use Rattle.recording.specs.Levels.{Shows}
 use Rattle.expression.specs.Expression.{Expression}
@@ -15,9 +11,9 @@ use Rattle.expression.specs.Refusal.{DrillCause}
 use Rattle.meaning.specs.Lists.{Value, overflow, Evaluates}
 use Rattle.finder.specs.Causes as calls
 pub use Rattle.delivery.specs.Buffers.{room, NoRoom, Finishes, words, fronted, zeroed, cleared, BothKept, AnswerKept, Delivered}
-pub use Rattle.finder.specs.declared.Returned.{Returned}
-pub use Rattle.finder.specs.declared.Outcome.{Outcome}
-pub use Rattle.finder.specs.declared.Outcome.the-variants.{
+pub use Rattle.outcome.specs.declared.Returned.{Returned}
+pub use Rattle.outcome.specs.declared.Outcome.{Outcome}
+pub use Rattle.outcome.specs.declared.Outcome.the-variants.{
   RecordingLength,
   RecordingHead,
   RecordingChange,
@@ -31,47 +27,7 @@ pub use Rattle.finder.specs.declared.Outcome.the-variants.{
   AnswerShort,
   Finished,
 }
-
--- ---- what is returned
-
--- "number, 0 zones, 0 rounds"
-abbrev pub refusal : ℕ → Returned
-refusal n = record { number = n; zones = 0; rounds = 0 }
-
--- the table's numbers; an accepted call "returns 0, the number of zones and the total of rounds"
-abbrev pub returned : Outcome → Returned
-returned RecordingLength = refusal 1
-returned RecordingHead = refusal 2
-returned RecordingChange = refusal 3
-returned DrillLength = refusal 4
-returned DrillForm = refusal 5
-returned DrillLetter = refusal 6
-returned DrillRange = refusal 7
-returned DrillDepth = refusal 8
-returned WorkShort = refusal 9
-returned Overflow = refusal 10
-returned AnswerShort = refusal 11
-returned (Finished zones rounds) = record { number = 0; zones = zones; rounds = rounds }
-
--- ---- what is left in the buffers
-
--- the table's column "Left as it was": both buffers, or the answer buffer, "work as below"; an accepted call delivers its list
-pub data Left : Type 0 where
-  both answer-buffer delivered : Left
-
-abbrev pub leaves : Outcome → Left
-leaves RecordingLength = both
-leaves RecordingHead = both
-leaves RecordingChange = both
-leaves DrillLength = both
-leaves DrillForm = both
-leaves DrillLetter = both
-leaves DrillRange = both
-leaves DrillDepth = both
-leaves WorkShort = both
-leaves Overflow = answer-buffer
-leaves AnswerShort = answer-buffer
-leaves (Finished zones rounds) = delivered
+pub use Rattle.outcome.specs.Outcome.{returned, Left, both, answer-buffer, delivered, leaves, frontOf}
 
 -- ---- the causes
 
@@ -136,7 +92,3 @@ BuffersAs bytes text o = LeftAs (Comes bytes text) (returned o) (leaves o)
 pub record FindAs (bytes text : List ℕ) (answer work : List ℤ) (o : Outcome) (answer′ work′ : List ℤ) : Type 0 where
   pub outcome : CallAs bytes text (length answer) (length work) o
   pub buffers : BuffersAs bytes text o answer work answer′ work′
-
--- "told the number of zones, the filled front of the lent answer buffer comes back; told more zones than the buffer can hold, .. the empty front"
-unfoldable pub frontOf : List ℤ → ℕ → List ℤ
-frontOf answer zones = cond (leb (zones * zone-words) (length answer)) (take (zones * zone-words) answer) []

@@ -3,8 +3,8 @@
 // A case is five numbers of four bytes, low byte first: the lengths of recording and drill, the words of the answer and
 // of the work buffer, and the zones that `front` is told (the largest of these numbers stands for the largest `usize`).
 // The recording and the drill follow. Word i of either buffer is i before the call.
-use finder::Outcome;
 use finder::WORK_WORDS;
+use outcome::Outcome;
 use sheet::Printed;
 
 // The largest inputs and buffers of a case.
@@ -28,10 +28,10 @@ fn print_sheet(outcome: Outcome, front: &[i32]) {
 fn print_call(outcome: Outcome, answer: &[i32], work: &[i32], told: usize) {
     let returned = outcome.returned();
     case_parts::print_returned(returned.number, returned.zones, returned.rounds);
-    let listed = finder::front(answer, returned.zones);
+    let listed = outcome::front(answer, returned.zones);
     case_parts::print_answer_state(answer, listed.len());
     case_parts::print_work_state(work, WORK_WORDS);
-    let shown = finder::front(answer, told);
+    let shown = outcome::front(answer, told);
     case_parts::print_line(b"front ", shown.len() as u64);
     print_sheet(outcome, listed);
 }

@@ -30,7 +30,7 @@ use Rattle.parser.specs.Readers.{width, wrong}
 use Rattle.parser.proofs.Complete.{whole-sound}
 use Rattle.parser.proofs.Parses.{right-length, accepted}
 use Rattle.meaning.specs.Lists.{value, ended, Then.goes, runZones, Letter, Evaluates}
-use Rattle.finder.specs.declared.Outcome.the-variants.{Finished}
+use Rattle.outcome.specs.declared.Outcome.the-variants.{Finished}
 use Rattle.finder.specs.Outcome.{Comes, room, words, fronted, cleared, FindAs}
 use Rattle.marked.specs.Marked.{R, Row, marked, Gives, RowHolds}
 use Rattle.finder.proofs.Outcomes.{recordings, drills, Without, recording-call, drill-none, accepted-call}

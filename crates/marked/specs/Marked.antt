@@ -11,8 +11,9 @@ use Rattle.zone.specs.declared.Zone.{Zone}
 use Rattle.words.specs.Words.{zone-words}
 use Rattle.recording.specs.Reading.{tick}
 use Rattle.text.specs.Text.{ascii}
-use Rattle.finder.specs.declared.Outcome.{Outcome}
-use Rattle.finder.specs.Outcome.{returned, room, words, fronted, cleared, FindAs}
+use Rattle.outcome.specs.declared.Outcome.{Outcome}
+use Rattle.outcome.specs.Outcome.{returned}
+use Rattle.finder.specs.Outcome.{room, words, fronted, cleared, FindAs}
 
 -- ---- the inputs
 

@@ -8,7 +8,7 @@ use native.Mathlib.Omega.{arith}
 use lib.IntN.{ℤ}
 use lib.ListN.{length, take, length-take}
 use lib.Seq.{take-all, take-take}
-use Rattle.finder.specs.declared.Outcome.{Outcome}
+use Rattle.outcome.specs.declared.Outcome.{Outcome}
 use Rattle.finder.specs.Outcome.{largest, FindAs}
 use Rattle.finder.proofs.Longer.{Alike, longer}
 use Rattle.files.specs.Files.{trimmed}

@@ -8,10 +8,11 @@ use lib.IntN.{ℤ, pos}
 use lib.ListN.{length, take, replicate, length-take}
 use Rattle.io.specs.Counts.{Counts}
 use Rattle.zone.proofs.Laws.{ranged-more}
-use Rattle.finder.specs.declared.Returned.{Returned}
-use Rattle.finder.specs.declared.Outcome.{Outcome}
-use Rattle.finder.specs.Outcome.{returned, room, frontOf, FindAs}
-use Rattle.finder.proofs.Causes.{zero-finished}
+use Rattle.outcome.specs.declared.Returned.{Returned}
+use Rattle.outcome.specs.declared.Outcome.{Outcome}
+use Rattle.outcome.specs.Outcome.{returned, frontOf}
+use Rattle.outcome.proofs.Numbers.{zero-finished}
+use Rattle.finder.specs.Outcome.{room, FindAs}
 use Rattle.finder.proofs.Sizes.{few-zones, few-rounds, front-length, front-ranged}
 use Rattle.sheet.specs.Sheet.{sheet}
 use Rattle.sheet.specs.declared.Printed.{Printed}

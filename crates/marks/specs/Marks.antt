@@ -6,8 +6,9 @@ use lib.IntN.{ℤ, pos}
 use lib.ListN.{length, take, replicate}
 use Rattle.words.specs.Words.{zone-words}
 use Rattle.list.specs.Insert.{capacity}
-use Rattle.finder.specs.declared.Outcome.{Outcome}
-use Rattle.finder.specs.Outcome.{returned, room, frontOf, FindAs}
+use Rattle.outcome.specs.declared.Outcome.{Outcome}
+use Rattle.outcome.specs.Outcome.{returned, frontOf}
+use Rattle.finder.specs.Outcome.{room, FindAs}
 use Rattle.sheet.specs.Sheet.{sheet}
 use Rattle.files.specs.Files.{trimmed}
 

@@ -32,7 +32,7 @@ fn mark(
     let k = files::drill_length(text, m);
     let outcome = finder::find(&drive[..n], &text[..k], &mut answer, &mut work);
     let told = outcome.returned();
-    match sheet::text(outcome, finder::front(&answer, told.zones), out) {
+    match sheet::text(outcome, outcome::front(&answer, told.zones), out) {
         Printed::Bytes(size) => size,
         // Neither happens: the front is told its own zones, and no sheet is longer.
         Printed::FrontShort => 0,

@@ -3,8 +3,8 @@ use mathlib.Core.Path.{_≡_, refl}
 use mathlib.Core.List.{[], _∷_, _++_}
 use Prim.Native.Nat.{ℕ}
 use lib.IntN.{ℤ, pos, negℤ}
-use Rattle.finder.specs.declared.Outcome.the-variants.{DrillForm, Overflow, Finished}
-use Rattle.finder.specs.Outcome.{returned}
+use Rattle.outcome.specs.declared.Outcome.the-variants.{DrillForm, Overflow, Finished}
+use Rattle.outcome.specs.Outcome.{returned}
 use Rattle.words.specs.Words.{zoneAt}
 use Rattle.text.specs.Text.{ascii}
 use Rattle.text.specs.Decimal.{next, counted, decimal, integer}

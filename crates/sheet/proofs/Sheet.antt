@@ -12,9 +12,9 @@ use Rattle.text.specs.declared.Written.{Written}
 use Rattle.text.specs.declared.Written.the-variants.{Bytes as bytes, TooSmall as small}
 use Rattle.text.specs.Buffer.{Appends}
 use Rattle.text.proofs.Buffer.{or-longer, fits-onto, fits-fitted, over-fitted, fitted-bytes, whole}
-use Rattle.finder.specs.declared.Returned.{Returned}
-use Rattle.finder.specs.declared.Outcome.{Outcome}
-use Rattle.finder.specs.declared.Outcome.the-variants.{
+use Rattle.outcome.specs.declared.Returned.{Returned}
+use Rattle.outcome.specs.declared.Outcome.{Outcome}
+use Rattle.outcome.specs.declared.Outcome.the-variants.{
   RecordingLength,
   RecordingHead,
   RecordingChange,
@@ -28,7 +28,7 @@ use Rattle.finder.specs.declared.Outcome.the-variants.{
   AnswerShort,
   Finished,
 }
-use Rattle.finder.specs.Outcome.{returned}
+use Rattle.outcome.specs.Outcome.{returned}
 use Rattle.sheet.specs.Sheet.{finished, refused, sheet}
 use Rattle.sheet.specs.Buffer.{Bytes, TooSmall, FrontShort, of-text, answer, left}
 

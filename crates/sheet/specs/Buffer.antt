@@ -6,7 +6,7 @@ use lib.Dec.{leb}
 use lib.IntN.{ℤ}
 use lib.ListN.{length}
 use Rattle.words.specs.Words.{zone-words}
-use Rattle.finder.specs.declared.Returned.{Returned}
+use Rattle.outcome.specs.declared.Returned.{Returned}
 use Rattle.text.specs.declared.Written.{Written}
 use Rattle.text.specs.declared.Written.the-variants.{Bytes as bytes, TooSmall as small}
 use Rattle.text.specs.Buffer.{onto, fitted}

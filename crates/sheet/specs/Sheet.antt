@@ -10,7 +10,7 @@ use Rattle.zone.specs.declared.Zone.{Zone}
 use Rattle.limit.specs.Limit.{value}
 use Rattle.words.specs.Words.{zone-words, zoneAt}
 use Rattle.text.specs.Decimal.{decimal, integer}
-use Rattle.finder.specs.declared.Returned.{Returned}
+use Rattle.outcome.specs.declared.Returned.{Returned}
 use Rattle.text.specs.Text.{ascii}
 
 -- one text or the other: "a square bracket is reached, a round one is not"

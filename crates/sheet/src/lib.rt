@@ -1,7 +1,7 @@
 // The sheet of a call: the bytes that the program prints for an outcome and the words of its zones, written into a lent
 // buffer. specs/Sheet.antt is the text, piece by piece; each private function puts one piece behind what is written so far.
-use finder::Outcome;
 use limit::Limit;
+use outcome::Outcome;
 use text::Written;
 use words::ZONE_WORDS;
 use zone::Zone;
@@ -15,7 +15,7 @@ ghost use Rattle.limit.specs.Limit.{value};
 ghost use Rattle.words.specs.Words.{zone-words};
 ghost use Rattle.text.specs.declared.Written.the-variants.{Bytes};
 ghost use Rattle.text.specs.Buffer.{Appends};
-ghost use Rattle.finder.specs.Outcome.{returned};
+ghost use Rattle.outcome.specs.Outcome.{returned};
 ghost use Rattle.sheet.specs.Sheet.{bracket, range, line, lines, finished, refused};
 ghost use Rattle.sheet.specs.Buffer.{of-text, answer, left};
 

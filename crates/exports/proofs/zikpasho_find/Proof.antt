@@ -4,7 +4,7 @@ use mathlib.Core.List.{_∷_}
 use native.Mathlib.Omega.{arith}
 use lib.ListN.{drop}
 use denote.Ref.{now}
-use Rattle.finder.specs.declared.Returned.{Returned}
+use Rattle.outcome.specs.declared.Returned.{Returned}
 use Rattle.exports.proofs.Counts.{two}
 use borrow.Author.Needs.{needs}
 use Rattle.exports.proofs.zikpasho_find.Statement.{statement}

@@ -1,4 +1,4 @@
--- The length of what `finder::front` gives.
+-- The length of what `outcome::front` gives.
 use mathlib.Core.Path.{ap}
 use lib.ListN.{length}
 use borrow.Author.Needs.{needs}

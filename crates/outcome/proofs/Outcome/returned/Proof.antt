@@ -1,9 +1,9 @@
 -- `Outcome::returned` meets its contract, case by case.
 use mathlib.Core.Path.{sym, ap, _∙_}
-use Rattle.finder.specs.Outcome.{returned}
+use Rattle.outcome.specs.Outcome.{returned}
 use borrow.Author.Needs.{needs}
-use Rattle.finder.proofs.Outcome.returned.Statement.{statement}
-use Rattle.finder.proofs.Outcome.returned.Tie as tie
+use Rattle.outcome.proofs.Outcome.returned.Statement.{statement}
+use Rattle.outcome.proofs.Outcome.returned.Tie as tie
 
 pub returned-spec : {M : Type 1} → statement M
 returned-spec =

@@ -1,0 +1,3 @@
+-- `Numbers` and `Fronts` are laws for the crates above.
+pub mod Numbers
+pub mod Fronts

@@ -1,0 +1,2 @@
+-- What the contracts of `outcome` cite: definitions alone.
+pub mod Outcome
