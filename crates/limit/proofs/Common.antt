@@ -9,7 +9,7 @@ use lib.IntN.{pos, negℤ}
 use Rattle.signed.proofs.Integers.{neg}
 use Rattle.signed.proofs.Integers as Z
 use Rattle.limit.specs.Time.{Time, origin, tick, later, _≤ᵀ_, _<ᵀ_}
-use Rattle.limit.specs.Limit.{Limit, Below, Within, _≤ᴸ_, _⊕_, nought, most, least}
+use Rattle.limit.specs.Limit.{Limit, Below, Within, _≤ᴸ_, _⊕_, nought, most, least, less, more}
 use Rattle.limit.proofs.Linear.{up, dn, un, un-le, within-lin, le-lin, lin-le, sum-ud, sum-un, nought-up, nought-dn, nought-un}
 
 -- X/D − Y/D keeps to the limit
@@ -131,12 +131,26 @@ module _ (n : ℕ) (x y : Time) where
   unfolding up dn un
   within-most = (λ h. record { le = omega (arith, within-lin (most n) x y .0 h) }, λ h. within-lin (most n) x y .1 (omega (arith, h .le)))
 
+  -- −n counts down alone, times both denominators
+  lowered : Z.dn (negℤ (pos n)) * (x .den * y .den) ≡ n * (x .den * y .den)
+  lowered = rw (neg (pos n) .1) refl
+
+  not-raised : Z.up (negℤ (pos n)) * (x .den * y .den) ≡ 0
+  not-raised = rw (neg (pos n) .0) (omega arith)
+
   pub within-least : Within (least n) x y ↔ later n x ≤ᵀ y
   unfolding up dn un
   within-least =
-      let d : Z.dn (negℤ (pos n)) * (x .den * y .den) ≡ n * (x .den * y .den) = rw (neg (pos n) .1) refl in
-      let u : Z.up (negℤ (pos n)) * (x .den * y .den) ≡ 0 = rw (neg (pos n) .0) (omega arith) in
-      (λ h. record { le = omega (arith, within-lin (least n) x y .0 h) }, λ h. within-lin (least n) x y .1 (omega (arith, h .le)))
+      (λ h. record { le = omega (arith, lowered, not-raised, within-lin (least n) x y .0 h) }, λ h. within-lin (least n) x y .1 (omega (arith, lowered, not-raised, h .le)))
+
+  pub within-less : Within (less n) x y ↔ x <ᵀ later n y
+  unfolding up dn un
+  within-less = (λ h. record { lt = omega (arith, within-lin (less n) x y .0 h) }, λ h. within-lin (less n) x y .1 (omega (arith, h .lt)))
+
+  pub within-more : Within (more n) x y ↔ later n x <ᵀ y
+  unfolding up dn un
+  within-more =
+      (λ h. record { lt = omega (arith, lowered, not-raised, within-lin (more n) x y .0 h) }, λ h. within-lin (more n) x y .1 (omega (arith, lowered, not-raised, h .lt)))
 
 -- the same of a time and a tick
 module _ (n : ℕ) (x : Time) where

@@ -5,7 +5,7 @@ use Prim.Native.Nat.{ℕ, _≤_}
 use lib.Dec.{T}
 use lib.IntN.{ℤ, pos, negℤ, _+ℤ_, _*ℤ_}
 use lib.Signed.{leZ, ltZ, shrZ, mag, _≤ℤ_, _<ℤ_}
-use Rattle.limit.specs.Time.{Time, later, _≤ᵀ_, difference, scaled}
+use Rattle.limit.specs.Time.{Time, later, _≤ᵀ_, _<ᵀ_, difference, scaled}
 pub use Rattle.limit.specs.declared.Limit.{Limit}
 pub use Rattle.limit.specs.declared.Limit.the-variants.{AtMost, Below}
 
@@ -48,12 +48,25 @@ most n = AtMost (pos n)
 abbrev pub least : ℕ → Limit
 least n = AtMost (negℤ (pos n))
 
--- what they say of x − y: at most n; and at most −n, so that y − x is at least n
+-- "less than n" and "more than n", not reached, kept in the same way
+abbrev pub less : ℕ → Limit
+less n = Below (pos n)
+
+abbrev pub more : ℕ → Limit
+more n = Below (negℤ (pos n))
+
+-- what they say of x − y: at most n; at most −n, so that y − x is at least n; and so for less and more
 pub record IsMost (n : ℕ) (l : Limit) : Type 0 where
   pub within : (x y : Time) → Within l x y ↔ x ≤ᵀ later n y
 
 pub record IsLeast (n : ℕ) (l : Limit) : Type 0 where
   pub within : (x y : Time) → Within l x y ↔ later n x ≤ᵀ y
+
+pub record IsLess (n : ℕ) (l : Limit) : Type 0 where
+  pub within : (x y : Time) → Within l x y ↔ x <ᵀ later n y
+
+pub record IsMore (n : ℕ) (l : Limit) : Type 0 where
+  pub within : (x y : Time) → Within l x y ↔ later n x <ᵀ y
 
 -- its whole number
 abbrev pub value : Limit → ℤ

@@ -6,7 +6,7 @@ ghost use mathlib.Core.Path.{_≡_};
 ghost use Prim.Native.Nat.{_≤_};
 ghost use lib.IntN.{pos, negℤ, _+ℤ_, _-ℤ_};
 ghost use lib.Signed.{mag};
-ghost use Rattle.limit.specs.Limit.{at-most, lesser, _⊕_, nought, most, least, IsMost, IsLeast, most-ticks, most-sum, code, decode, Small};
+ghost use Rattle.limit.specs.Limit.{at-most, lesser, _⊕_, nought, most, least, less, more, IsMost, IsLeast, IsLess, IsMore, most-ticks, most-sum, code, decode, Small};
 
 // An upper limit: reached (non-strict) or not reached (strict), with its whole number.
 pub enum Limit {
@@ -79,6 +79,24 @@ impl Limit {
         ensures meaning { λ r. ⌜ IsLeast n r ⌝ }
     {
         Limit::AtMost(negative(n))
+    }
+
+    // Less than n.
+    pub fn less(n: u32) -> Limit
+        requires { ⌜ n ≤ most-ticks ⌝ }
+        ensures value { λ r. ⌜ r ≡ less n ⌝ }
+        ensures meaning { λ r. ⌜ IsLess n r ⌝ }
+    {
+        Limit::Below(positive(n))
+    }
+
+    // More than n: below −n of the negated quantity.
+    pub fn more(n: u32) -> Limit
+        requires { ⌜ n ≤ most-ticks ⌝ }
+        ensures value { λ r. ⌜ r ≡ more n ⌝ }
+        ensures meaning { λ r. ⌜ IsMore n r ⌝ }
+    {
+        Limit::Below(negative(n))
     }
 
     pub fn plus(self, other: Limit) -> Limit
