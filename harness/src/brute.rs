@@ -15,14 +15,17 @@
 //! *Moving times.* Let h be an increasing bijection of the times, piecewise linear with fractions
 //! for its corners, that fixes 0 and has h(t + 1) = h(t) + 1. It takes fractions to fractions and
 //! keeps whole ticks where they are. It keeps the order of times, and as t' - t ≤ c holds just
-//! when t' ≤ t + c does, it keeps every comparison of a length with a whole number. So whatever
-//! Definition 3 says of a stretch and its cuts, it says of them moved by h: a stretch fits a drill
-//! just when the moved stretch does.
+//! when t' ≤ t + c does, and t' - t < c just when t' < t + c, it keeps every comparison of a length
+//! with a whole number, so bounds that are not reached ask for no finer grid than those that are.
+//! So whatever Definition 3 says of a stretch and its cuts, it says of them moved by h: a stretch
+//! fits a drill just when the moved stretch does.
 //!
 //! *Ends on thirds.* Such an h takes one stretch to another when their ends lie in the same ticks
 //! and their fractional parts are ordered alike, with each other and with 0. Two fractional parts
 //! have few orders, and each is found among 0, 1/3 and 2/3. So every stretch has one with ends on
-//! thirds that stands in for it ([`stand_in`]).
+//! thirds that stands in for it ([`stand_in`]). One that is longer than c ticks by however little
+//! has one of c + 1/3 or c + 2/3, and one that is a little shorter has one of c - 1/3 or c - 2/3, so
+//! both sides of every bound are tried, and the bound itself.
 //!
 //! *Cuts on sixths.* Take a stretch with ends on thirds and a cut anywhere. The fractional part of
 //! the cut is that of an end, or 0, or lies in a gap between those and 1. A gap is at least a third
@@ -32,7 +35,7 @@
 //! So a composition is right for ends on thirds, and then each stretch on sixths takes the answer
 //! of the one that stands in for it ([`Table::settle`]): the table is right on all sixths again.
 
-use crate::drill::{Band, Drill};
+use crate::drill::{Band, Bound, Drill};
 use crate::recording::Recording;
 use crate::zone::Zone;
 
@@ -186,10 +189,19 @@ impl Grid {
 
     fn within(&self, inner: &Table, band: Band) -> Table {
         let mut table = self.empty();
-        let from = band.lo as usize * self.parts;
-        let to = band.hi.map_or(usize::MAX, |hi| hi as usize * self.parts);
+        let on_grid = |ticks: u32| ticks as usize * self.parts;
+        let long_enough = |length: usize| match band.lo {
+            Bound::Reached(lo) => on_grid(lo) <= length,
+            Bound::NotReached(lo) => on_grid(lo) < length,
+        };
+        let short_enough = |length: usize| match band.hi {
+            Some(Bound::Reached(hi)) => length <= on_grid(hi),
+            Some(Bound::NotReached(hi)) => length < on_grid(hi),
+            None => true,
+        };
         for (start, end) in inner.stretches() {
-            if inner.has(start, end) && (from..=to).contains(&(end - start)) {
+            let length = end - start;
+            if inner.has(start, end) && long_enough(length) && short_enough(length) {
                 table.add(start, end);
             }
         }
@@ -352,8 +364,13 @@ mod tests {
             Drill::Both(left, right) => fits(left, s, e) && fits(right, s, e),
             Drill::Either(left, right) => fits(left, s, e) || fits(right, s, e),
             Drill::Within(inner, band) => {
-                let long_enough = e - s >= band.lo as usize * parts;
-                let short_enough = band.hi.is_none_or(|hi| e - s <= hi as usize * parts);
+                // Lengths and bounds in halves of a part, where a bound that is not reached is
+                // half a part inside and no length lies between the two.
+                let halves = |bound: Bound| 2 * i64::from(bound.ticks()) * parts as i64;
+                let inside = |bound: Bound| i64::from(!bound.is_reached());
+                let length = 2 * (e - s) as i64;
+                let long_enough = length >= halves(band.lo) + inside(band.lo);
+                let short_enough = band.hi.is_none_or(|hi| length <= halves(hi) - inside(hi));
                 long_enough && short_enough && fits(inner, s, e)
             }
             // Pieces of length 0 add nothing, so the first piece may be taken longer than that.
@@ -383,6 +400,38 @@ mod tests {
     fn a_sequence_of_letters_has_a_length() {
         assert!(!fits_r("a.a", 12, 12));
         assert!(!fits_r("a", 24, 24) && fits_r("a*", 24, 24));
+    }
+
+    #[test]
+    fn a_bound_is_tried_from_both_sides() {
+        // In sixths, from tick 2 of R: lengths just below, at and just above 2 ticks, then just
+        // below and at 5 ticks, where the run ends.
+        let fits = |text: &str| [23, 24, 25, 41, 42].map(|end| fits_r(text, 12, end));
+        assert_eq!(fits("a{2,5}"), [false, true, true, true, true]);
+        assert_eq!(fits("a{<2,5}"), [false, false, true, true, true]);
+        assert_eq!(fits("a{2,<5}"), [false, true, true, true, false]);
+        assert_eq!(fits("a{<2,<5}"), [false, false, true, true, false]);
+        assert_eq!(fits("a{0,<2}"), [true, false, false, false, false]);
+        assert_eq!(fits("a{<2,}"), [false, false, true, true, true]);
+        assert_eq!(fits("a{<5,}"), [false; 5]);
+        assert_eq!(fits("a{5,<6}"), [false, false, false, false, true]);
+        // Length 0 itself.
+        assert!(fits_r("_{0,<1}", 24, 24) && !fits_r("_{<0,1}", 24, 24));
+        assert!(fits_r("a{<0,<1}", 12, 13) && fits_r("a{<0,<1}", 12, 17));
+    }
+
+    /// Two pieces of more than 2 ticks make more than 4, by as little as the grid has.
+    #[test]
+    fn cuts_keep_off_a_bound_that_is_not_reached() {
+        let fits = |text: &str| [35, 36, 37].map(|end| fits_r(text, 12, end));
+        assert_eq!(fits("a{2,}.a{2,}"), [false, true, true]);
+        assert_eq!(fits("a{<2,}.a{<2,}"), [false, false, true]);
+        assert_eq!(fits("a{<2,}.a{2,}"), [false, false, true]);
+        assert_eq!(fits("a{0,<2}.a{0,<2}"), [true, false, false]);
+        assert_eq!(fits("a{0,2}.a{0,<2}"), [true, false, false]);
+        assert_eq!(fits("(a{<1,<2})*{<3,<5}"), [true; 3]);
+        assert_eq!(fits("(a{2,<3})*{0,<5}"), [false, true, true]);
+        assert_eq!(fits("(a{<2,<3})*{0,<5}"), [false, false, true]);
     }
 
     #[test]
@@ -469,6 +518,11 @@ mod tests {
             "(a|!a)*",
             "(a{0,1})*",
             "((a.!a){1,2}|a{1,1})*",
+            "(a{<1,<2})*",
+            "(a{0,<1})*",
+            "(a{<2,3})*",
+            "(a{2,<3})*",
+            "((a.!a){<1,<2}|a{1,<2})*",
         ] {
             let fine = on_grid(&drill(text), &recording, 60).coarsened(6);
             assert_eq!(exact(&drill(text), &recording), fine, "{text}");

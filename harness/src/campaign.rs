@@ -89,7 +89,7 @@ fn compare(
     tally.note(&found);
     if found.returned.is_accepted() {
         let zones = plain.listed(found.returned);
-        tally.stretches += check_accepted(input, &zones, &found.stars)?;
+        check_accepted(input, &zones, &found.stars, tally)?;
     }
     Ok(())
 }
@@ -261,9 +261,13 @@ fn compare_front(
     Ok(())
 }
 
-/// The bound on the rounds of each star, and the meaning of the zones. Gives the number of
-/// stretches compared.
-fn check_accepted(input: &Input, zones: &[Zone], stars: &[Star]) -> Result<usize, String> {
+/// The bound on the rounds of each star, and the meaning of the zones.
+fn check_accepted(
+    input: &Input,
+    zones: &[Zone],
+    stars: &[Star],
+    tally: &mut Tally,
+) -> Result<(), String> {
     let recording = Recording::read(&input.recording).map_err(|_| "accepted a wrong recording")?;
     let drill = Drill::read(&input.drill, recording.channels());
     let drill = drill.map_err(|_| "accepted a wrong drill")?;
@@ -272,10 +276,12 @@ fn check_accepted(input: &Input, zones: &[Zone], stars: &[Star]) -> Result<usize
             return Err(format!("{star:?} took more than n + d rounds"));
         }
     }
-    if recording.ticks() > MAX_BRUTE_TICKS {
-        return Ok(0);
+    let reached = |part: &Drill| !matches!(part, Drill::Within(_, band) if !band.is_reached());
+    tally.not_reached += u64::from(!drill.all(&reached));
+    if recording.ticks() <= MAX_BRUTE_TICKS {
+        tally.stretches += brute::compare(&drill, &recording, zones)?;
     }
-    brute::compare(&drill, &recording, zones)
+    Ok(())
 }
 
 /// All that is needed to make a call again.
@@ -301,6 +307,8 @@ struct Tally {
     calls: u64,
     /// By returned number, 0 being acceptance.
     returned: [u64; Refusal::LAST + 1],
+    /// Accepted drills with a bound that is not reached.
+    not_reached: u64,
     zones: u64,
     stars: u64,
     most_rounds: u64,
@@ -318,12 +326,16 @@ impl Tally {
         self.most_rounds = self.most_rounds.max(rounds.unwrap_or(0));
     }
 
-    /// The refusals that no call met.
+    /// What came up in no call, of the refusals and of bounds that are not reached.
     fn missing(&self) -> Vec<String> {
-        (1..=Refusal::LAST)
+        let mut missing: Vec<String> = (1..=Refusal::LAST)
             .filter(|&number| self.returned[number] == 0)
             .map(|number| format!("refused {number}"))
-            .collect()
+            .collect();
+        if self.not_reached == 0 {
+            missing.push("accepted with a bound that is not reached".into());
+        }
+        missing
     }
 }
 
@@ -337,9 +349,11 @@ impl fmt::Display for Tally {
             .collect();
         write!(
             out,
-            "{} calls, accepted {accepted} with {} zones and {} stars (at most {} rounds, all \
-             within n + d), {}; {} stretches compared, {} calls passed over for time",
+            "{} calls, accepted {accepted} ({} of them with a bound that is not reached) with {} \
+             zones and {} stars (at most {} rounds, all within n + d), {}; {} stretches compared, \
+             {} calls passed over for time",
             self.calls,
+            self.not_reached,
             self.zones,
             self.stars,
             self.most_rounds,

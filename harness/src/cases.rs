@@ -201,6 +201,8 @@ pub fn all() -> Vec<Case> {
         fronts(),
         several_causes(),
         limits(),
+        bounds_not_reached(),
+        bounds_refused(),
     ];
     groups.into_iter().flatten().collect()
 }
@@ -213,13 +215,18 @@ fn marked_set() -> Vec<Case> {
     drills.into_iter().map(Case::on_r).collect()
 }
 
-fn stars() -> Vec<Case> {
-    let two = recording(
+/// Two channels with several runs each.
+fn two() -> Vec<u8> {
+    recording(
         120,
         2,
         &[(10, 1), (34, 3), (35, 2), (61, 1), (80, 0), (90, 3)],
-    );
-    let overlapping = recording(
+    )
+}
+
+/// Two channels with short runs that overlap.
+fn overlapping() -> Vec<u8> {
+    recording(
         79,
         2,
         &[
@@ -232,7 +239,10 @@ fn stars() -> Vec<Case> {
             (74, 1),
             (77, 2),
         ],
-    );
+    )
+}
+
+fn stars() -> Vec<Case> {
     let overlapping_long = recording(
         99,
         2,
@@ -249,7 +259,7 @@ fn stars() -> Vec<Case> {
     vec![
         Case::on_r("(a{2,2})*"),
         Case::on_r("(a|!a)*"),
-        Case::new(two.clone(), "(a|!a)*"),
+        Case::new(two(), "(a|!a)*"),
         // A round that removes one zone and adds one.
         Case::on_r("(a{0,1})*"),
         // The star of an empty list, of the diagonal, of a star.
@@ -257,12 +267,12 @@ fn stars() -> Vec<Case> {
         Case::on_r("_*"),
         Case::on_r("(a{0,1})**"),
         Case::on_r("(a{1,2}.a{1,1})*|(!a{1,1})*"),
-        Case::new(two.clone(), "((a.b){0,3})*"),
-        Case::new(two.clone(), "((a|b){1,2}.!a)*.b"),
-        Case::new(two.clone(), "(a.b)&(a.b{1,})|!a.a"),
-        Case::new(two, "!a.a{1,1}.(b|_)"),
+        Case::new(two(), "((a.b){0,3})*"),
+        Case::new(two(), "((a|b){1,2}.!a)*.b"),
+        Case::new(two(), "(a.b)&(a.b{1,})|!a.a"),
+        Case::new(two(), "!a.a{1,1}.(b|_)"),
         // Here the order of the list shows which zones are composed first, and on which side.
-        Case::new(overlapping, "((a|b){1,1})*"),
+        Case::new(overlapping(), "((a|b){1,1})*"),
         Case::new(overlapping_long, "((b.(a|b)|a){1,1})*"),
     ]
 }
@@ -480,15 +490,96 @@ fn several_causes() -> Vec<Case> {
     ]
 }
 
+/// The longest drive, low throughout.
+fn longest() -> Vec<u8> {
+    recording(10_000_000, 1, &[(9_999_999, 1)])
+}
+
 /// The largest of everything.
 fn limits() -> Vec<Case> {
-    let longest = || recording(10_000_000, 1, &[(9_999_999, 1)]);
     vec![
         Case::new(largest(0), "b.(a{1,}|_)"),
         Case::new(longest(), "!a{1000000,1000000}"),
         Case::new(longest(), "!a{999999,}.!a*"),
         Case::new(longest(), "(!a|a)*{0,1000000}"),
     ]
+}
+
+/// Bands with a `<`, on R and at the edges.
+fn bounds_not_reached() -> Vec<Case> {
+    let throughout = recording(100, 1, &[(0, 1)]);
+    // 255 bytes.
+    let wrapped = format!("{}a{{<2,5}}{}", "(".repeat(124), ")".repeat(124));
+    vec![
+        Case::on_r("a{<2,5}"),
+        Case::on_r("a{2,<5}"),
+        Case::on_r("a{<2,<5}"),
+        Case::on_r("a{<2,<3}"),
+        Case::on_r("a{<0,}"),
+        Case::on_r("a{<4,}"),
+        Case::on_r("a{<5,}"),
+        Case::on_r("a{5,<6}"),
+        Case::on_r("a{0,<1}"),
+        // Length 0 is not longer than 0, and shorter than 1.
+        Case::on_r("_{<0,}"),
+        Case::on_r("_{0,<1}"),
+        Case::on_r("(a|_){<0,<1}"),
+        // Whether a part reaches its bound shows in the whole.
+        Case::on_r("a{<2,}.!a"),
+        Case::on_r("!a.a{<4,}.!a"),
+        Case::on_r("!a.a{<5,}.!a"),
+        Case::on_r("!a.a{5,<6}.!a"),
+        Case::on_r("a{<2,3}&a{2,<3}"),
+        Case::on_r("a{<2,3}|a{2,<3}"),
+        Case::on_r("a{2,3}|a{<2,<3}"),
+        Case::on_r("a{<1,}.a{<1,}"),
+        Case::on_r("a{0,<2}.a{0,2}"),
+        Case::on_r("a{<1,4}{2,<4}"),
+        Case::on_r("(a{<1,<2})*"),
+        Case::on_r("(a{<1,2})*"),
+        Case::on_r("(a{1,<2})*"),
+        // One round more than with the bound reached, and with `a` high throughout as many as n + d.
+        Case::on_r("(a{0,<1})*"),
+        Case::new(throughout, "(a{0,<1})*"),
+        Case::on_r("(a{<1,<2})**"),
+        Case::new(two(), "((a.b){<0,<3})*"),
+        Case::new(two(), "((a|b){<1,<2}.!a)*.b"),
+        Case::new(overlapping(), "((a|b){<0,<1})*"),
+        Case::new(overlapping(), "((a|b){1,<2})*"),
+        Case::on_r(wrapped),
+        Case::new(longest(), "!a{<999999,1000000}"),
+        Case::new(longest(), "!a{999999,<1000000}"),
+        Case::new(longest(), "!a{<999999,<1000000}"),
+        Case::new(longest(), "!a{<1000000,}"),
+    ]
+}
+
+/// Drills with a `<` that are refused: by 5, by 7, and by what is checked before and after these.
+fn bounds_refused() -> Vec<Case> {
+    let of_another_form = "a{200,<} a{<,5} a{<02,5} a{<<2,5} a{2<,5} a{2,<05} a{2,<<5} a{2,5<} \
+                           a{<200,<} a{<,} a{<2} a{,<5} a{<2,5 a{>2,5} a{<=2,5} a<{2,5} a<b";
+    let with_a_blank = [
+        "a{< 2,5}", "a{ <2,5}", "a{<2 ,5}", "a{<2, 5}", "a{2, <5}", "a{2,< 5}", "a{2,<5 }",
+    ];
+    let out_of_range = "a{<5,5} a{<2,2} a{2,<2} a{<2,<2} a{<0,0} a{0,<0} a{<0,<0} \
+                        a{1000000,<1000000} a{<1000001,<1000001} \
+                        a{<99999999999999999999,99999999999999999999} \
+                        a{<3,2} a{3,<2} a{<1000001,} a{0,<1000001} a{0,<4294967296} \
+                        (a.a{<2,5}){<2,2}";
+    let stars = "*".repeat(16);
+    let mut cases: Vec<Case> = of_another_form.split(' ').map(Case::on_r).collect();
+    cases.extend(with_a_blank.map(Case::on_r));
+    cases.extend(out_of_range.split(' ').map(Case::on_r));
+    // Several causes at once.
+    cases.push(Case::on_r("b{<2,2})"));
+    cases.push(Case::on_r("b{<2,2}"));
+    cases.push(Case::on_r(format!("a{{<2,2}}{stars}")));
+    cases.push(Case::on_r(format!("a{{<2,5}}{stars}")));
+    cases.push(Case::on_r("a{<2,2}").work(0).answer(0));
+    cases.push(Case::on_r("a{<2,5}").work(0).answer(0));
+    cases.push(Case::on_r("a{<2,5}").answer(5));
+    cases.push(Case::new(pulses(129), "a{<1,}"));
+    cases
 }
 
 #[cfg(test)]

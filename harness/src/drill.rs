@@ -1,5 +1,6 @@
 //! Drills: the text, the tree, and refusals 4 to 8.
 
+use std::cmp::Ordering;
 use std::fmt;
 
 use crate::refusal::Refusal;
@@ -8,15 +9,24 @@ use crate::refusal::Refusal;
 pub const MAX_LENGTH: usize = 255;
 /// The deepest tree.
 pub const MAX_DEPTH: usize = 16;
-/// The highest limit of a band.
-pub const MAX_LIMIT: u32 = 1_000_000;
+/// The highest bound of a band.
+pub const MAX_BOUND: u32 = 1_000_000;
 
-/// Limits on the length of a stretch, both reached.
+/// An end of a band, in ticks.
+#[derive(Clone, Copy, Debug, PartialEq, Eq)]
+pub enum Bound {
+    /// A length of just so many ticks is in the band.
+    Reached(u32),
+    /// It is not: a `<` stands before the number.
+    NotReached(u32),
+}
+
+/// Bounds on the length of a stretch.
 #[derive(Clone, Copy, Debug, PartialEq, Eq)]
 pub struct Band {
-    pub lo: u32,
+    pub lo: Bound,
     /// Missing where there is no upper limit.
-    pub hi: Option<u32>,
+    pub hi: Option<Bound>,
 }
 
 #[derive(Clone, Debug, PartialEq, Eq)]
@@ -159,10 +169,43 @@ impl fmt::Display for Drill {
     }
 }
 
+impl Bound {
+    pub fn ticks(self) -> u32 {
+        match self {
+            Bound::Reached(ticks) | Bound::NotReached(ticks) => ticks,
+        }
+    }
+
+    pub fn is_reached(self) -> bool {
+        matches!(self, Bound::Reached(_))
+    }
+}
+
+impl fmt::Display for Bound {
+    fn fmt(&self, out: &mut fmt::Formatter) -> fmt::Result {
+        let less = if self.is_reached() { "" } else { "<" };
+        write!(out, "{less}{}", self.ticks())
+    }
+}
+
 impl Band {
+    /// Times are fractions, so bounds that differ leave a length between them even where neither
+    /// is reached. Equal ones leave that one length, if both are reached.
     fn is_valid(self) -> bool {
-        let hi = self.hi.unwrap_or(MAX_LIMIT);
-        self.lo <= hi && hi <= MAX_LIMIT
+        let Some(hi) = self.hi else {
+            return self.lo.ticks() <= MAX_BOUND;
+        };
+        let in_order = match self.lo.ticks().cmp(&hi.ticks()) {
+            Ordering::Less => true,
+            Ordering::Equal => self.is_reached(),
+            Ordering::Greater => false,
+        };
+        in_order && hi.ticks() <= MAX_BOUND
+    }
+
+    /// Whether every bound that it has is reached.
+    pub fn is_reached(self) -> bool {
+        self.lo.is_reached() && self.hi.is_none_or(Bound::is_reached)
     }
 }
 
@@ -243,15 +286,25 @@ impl Reader<'_> {
 
     /// The band after its opening brace.
     fn band(&mut self) -> Option<Band> {
-        let lo = self.number()?;
+        let lo = self.bound()?;
         if !self.take(b',') {
             return None;
         }
         if self.take(b'}') {
             return Some(Band { lo, hi: None });
         }
-        let hi = Some(self.number()?);
+        let hi = Some(self.bound()?);
         self.take(b'}').then_some(Band { lo, hi })
+    }
+
+    /// A number, with a `<` before it where it is not reached.
+    fn bound(&mut self) -> Option<Bound> {
+        let bound = if self.take(b'<') {
+            Bound::NotReached
+        } else {
+            Bound::Reached
+        };
+        self.number().map(bound)
     }
 
     /// A number of any length. One that does not fit becomes the largest that does, which is
@@ -323,6 +376,10 @@ mod tests {
             "(a|b)&c",
             "(a.b){0,3}*",
             "((a&b).!a){4,}",
+            "a{<200,500}",
+            "a{200,<500}",
+            "(a.b){<200,<500}*",
+            "a{<200,}",
         ] {
             assert_eq!(read(text).to_string(), text);
             let bracketed = read(text).text(&mut || 1);
@@ -346,17 +403,118 @@ mod tests {
     }
 
     #[test]
+    fn a_bound_after_a_less_than_is_not_reached() {
+        let band = |text: &str| match read(&format!("a{text}")) {
+            Drill::Within(_, band) => band,
+            drill => panic!("{drill:?} is no band"),
+        };
+        let (reached, not_reached) = (Bound::Reached, Bound::NotReached);
+        let table = [
+            ("{200,500}", reached(200), Some(reached(500))),
+            ("{<200,500}", not_reached(200), Some(reached(500))),
+            ("{200,<500}", reached(200), Some(not_reached(500))),
+            ("{<200,<500}", not_reached(200), Some(not_reached(500))),
+            ("{200,}", reached(200), None),
+            ("{<200,}", not_reached(200), None),
+            ("{<0,}", not_reached(0), None),
+            // Fractions lie between neighbouring ticks.
+            ("{<2,<3}", not_reached(2), Some(not_reached(3))),
+            ("{<0,<1}", not_reached(0), Some(not_reached(1))),
+            ("{<1000000,}", not_reached(1_000_000), None),
+            (
+                "{<999999,<1000000}",
+                not_reached(999_999),
+                Some(not_reached(1_000_000)),
+            ),
+        ];
+        for (text, lo, hi) in table {
+            assert_eq!(band(text), Band { lo, hi }, "{text}");
+        }
+    }
+
+    #[test]
+    fn a_less_than_stands_directly_before_a_number_and_nowhere_else() {
+        for text in [
+            "a{200,<}",
+            "a{<200,<}",
+            "a{<,5}",
+            "a{<,}",
+            "a{<,<}",
+            "a{<}",
+            "a{<2}",
+            "a{,<5}",
+            "a{<02,5}",
+            "a{2,<05}",
+            "a{<00,1}",
+            "a{0<2,5}",
+            "a{<<2,5}",
+            "a{2,<<5}",
+            "a{2<,5}",
+            "a{2,5<}",
+            "a{2<5}",
+            "a{<2,5",
+            "a{<2,<5,}",
+            "a{=<2,5}",
+            "a{<=2,5}",
+            "a{>2,5}",
+            "a{2,>5}",
+            "a{<-1,2}",
+            "a{< 2,5}",
+            "a{ <2,5}",
+            "a{<2 ,5}",
+            "a{<2, 5}",
+            "a{2, <5}",
+            "a{2,< 5}",
+            "a{2,<5 }",
+            "a{<2, }",
+            "a<{2,5}",
+            "a{2,5}<",
+            "<a",
+            "a<2",
+            "a<b",
+        ] {
+            assert_eq!(refused(text, 16), Some(5), "{text}");
+        }
+    }
+
+    /// Whatever the number is: where it is above the highest bound, that refuses it as well.
+    #[test]
+    fn equal_bounds_are_both_reached() {
+        for number in [
+            "0",
+            "2",
+            "1000000",
+            "1000001",
+            "4294967295",
+            "4294967296",
+            "99999999999999999999",
+        ] {
+            for (lo, hi) in [("<", ""), ("", "<"), ("<", "<")] {
+                let text = format!("a{{{lo}{number},{hi}{number}}}");
+                assert_eq!(refused(&text, 1), Some(7), "{text}");
+            }
+        }
+        for text in ["a{0,0}", "a{2,2}", "a{1000000,1000000}"] {
+            assert_eq!(refused(text, 1), None, "{text}");
+        }
+    }
+
+    #[test]
     fn each_check_covers_the_whole_text_before_the_next() {
         assert_eq!(refused("", 1), Some(4));
         assert_eq!(refused(&"(".repeat(256), 1), Some(4));
         assert_eq!(refused("b{2,1}.a)", 1), Some(5));
         assert_eq!(refused("a{2,1}.b", 1), Some(6));
         assert_eq!(refused("a{2,1}*****************", 1), Some(7));
+        assert_eq!(refused("b{<2,2}.a)", 1), Some(5));
+        assert_eq!(refused("a{<2,2}.b", 1), Some(6));
+        assert_eq!(refused("a{<2,2}*****************", 1), Some(7));
+        assert_eq!(refused("a{<2,5}*****************", 1), Some(8));
         assert_eq!(refused("a*****************", 1), Some(8));
     }
 
     #[test]
-    fn limits_of_a_band_may_have_any_number_of_digits() {
+    fn bounds_may_have_any_number_of_digits() {
         assert_eq!(refused("a{1000001,}", 1), Some(7));
         assert_eq!(refused("a{0,1000001}", 1), Some(7));
         assert_eq!(refused("a{3,2}", 1), Some(7));
@@ -364,6 +522,19 @@ mod tests {
         assert_eq!(refused("a{0,4294967296}", 1), Some(7));
         assert_eq!(refused("a{18446744073709551616,}", 1), Some(7));
         assert_eq!(refused(&format!("a{{{},}}", "9".repeat(250)), 1), Some(7));
+        for text in [
+            "a{<1000001,}",
+            "a{0,<1000001}",
+            "a{<3,2}",
+            "a{3,<2}",
+            "a{<3,<2}",
+            "a{<4294967296,}",
+            "a{0,<4294967296}",
+            "a{<0,<18446744073709551616}",
+        ] {
+            assert_eq!(refused(text, 1), Some(7), "{text}");
+        }
+        assert_eq!(refused(&format!("a{{<{},}}", "9".repeat(249)), 1), Some(7));
     }
 
     #[test]

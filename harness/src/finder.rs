@@ -182,6 +182,61 @@ mod tests {
         }
     }
 
+    /// Worked out by hand from document 01: of the stretches from 2 to 7, those of the lengths that
+    /// the band leaves, with the ends that such a length leaves.
+    #[test]
+    fn bounds_that_are_not_reached() {
+        let table = [
+            ("a{<2,5}", "start [2,5) end (4,7] length (2,5]"),
+            ("a{2,<5}", "start [2,5] end [4,7] length [2,5)"),
+            ("a{<2,<5}", "start [2,5) end (4,7] length (2,5)"),
+            ("a{<2,<3}", "start [2,5) end (4,7] length (2,3)"),
+            ("a{<0,}", "start [2,7) end (2,7] length (0,5]"),
+            ("a{<4,}", "start [2,3) end (6,7] length (4,5]"),
+            ("a{5,<6}", "start [2,2] end [7,7] length [5,5]"),
+            ("_{0,<1}", "start [0,10] end [0,10] length [0,0]"),
+            ("a{<1,}.a{<1,}", "start [2,5) end (4,7] length (2,5]"),
+            ("!a.a{<4,}.!a", "start [0,2) end (7,10] length (5,10]"),
+        ];
+        for (drill, zone) in table {
+            let expected = format!("zones 1 rounds 0\n{zone}\n");
+            assert_eq!(sheet(&recording_r(), drill), expected, "{drill}");
+        }
+        for drill in ["a{<5,}", "_{<0,}", "!a.a{<5,}.!a"] {
+            assert_eq!(
+                sheet(&recording_r(), drill),
+                "zones 0 rounds 0\n",
+                "{drill}"
+            );
+        }
+    }
+
+    /// By hand: k pieces are together longer than k and shorter than 2k. Rounds 1 and 2 add the
+    /// zones of two and of three pieces. Four pieces, longer than 4, lie in the zone of three, which
+    /// the run of 5 ticks cuts off at 5 and not below: round 3 changes nothing.
+    #[test]
+    fn a_star_of_bounds_that_are_not_reached() {
+        let expected = "zones 4 rounds 3\n\
+            start [2,6) end (3,7] length (1,2)\n\
+            start [2,5) end (4,7] length (2,4)\n\
+            start [2,4) end (5,7] length (3,5]\n\
+            start [0,10] end [0,10] length [0,0]\n";
+        assert_eq!(sheet(&recording_r(), "(a{<1,<2})*"), expected);
+    }
+
+    /// By hand: after round k the one zone has the lengths below k + 1, so 5 itself is there only
+    /// after round 5, where with the bound reached it is there after round 4.
+    #[test]
+    fn a_bound_that_is_not_reached_may_take_a_round_more() {
+        let expected = "zones 2 rounds 6\n\
+            start [2,7) end (2,7] length (0,5]\n\
+            start [0,10] end [0,10] length [0,0]\n";
+        assert_eq!(sheet(&recording_r(), "(a{0,<1})*"), expected);
+        // With 10 ticks for 5, as many rounds as n + d.
+        let throughout = recording(100, 1, &[(0, 1)]);
+        assert!(sheet(&throughout, "(a{0,<1})*").starts_with("zones 2 rounds 11\n"));
+    }
+
     #[test]
     fn rounding_reaches_the_zones() {
         let at = |ms| recording(100, 1, &[(ms, 1)]);

@@ -29,7 +29,7 @@ pub fn any(rng: &mut Rng) -> Input {
         damage_recording(rng, &mut input.recording);
     }
     if rng.once_in(6) {
-        damage(rng, &mut input.drill, b"_abcp!()|&.*{},0123456789q \n\xFF");
+        damage(rng, &mut input.drill, b"_abcp!()|&.*{},<0123456789q \n\xFF");
     }
     input
 }
@@ -80,9 +80,10 @@ fn pieces(rng: &mut Rng) -> Input {
         let other = random::drill(rng, taste);
         piece = Drill::Either(Box::new(piece), Box::new(other));
     }
-    let lo = rng.between(1, 2);
-    let hi = Some(rng.between(lo, 2));
-    let star = Drill::Star(Box::new(Drill::Within(Box::new(piece), Band { lo, hi })));
+    let lo = rng.between(0, 2);
+    let hi = rng.between(lo.max(1), 2);
+    let band = random::bounded(rng, lo, Some(hi));
+    let star = Drill::Star(Box::new(Drill::Within(Box::new(piece), band)));
     Input {
         recording: random::recording(rng, head, 14),
         drill: random::text(rng, &star),
@@ -164,7 +165,7 @@ fn deep(rng: &mut Rng) -> Input {
     }
 }
 
-/// Letters and bands that are likely to be wrong, numbers of any length.
+/// Letters and bands that are likely to be wrong, numbers of any length, bounds reached or not.
 fn outside(rng: &mut Rng) -> Input {
     let head = small_head(rng);
     let taste = Taste {
@@ -174,13 +175,23 @@ fn outside(rng: &mut Rng) -> Input {
         stars: true,
     };
     let drill = random::drill(rng, taste);
-    let text = match rng.below(3) {
-        0 => format!("({drill}){{{},{}}}", digits(rng), digits(rng)),
-        1 => format!("({drill}){{{},}}", digits(rng)),
+    let text = match rng.below(6) {
+        0 => {
+            let (lo, hi) = (digits(rng), digits(rng));
+            format!("({drill}){{{}{lo},{}{hi}}}", less(rng), less(rng))
+        }
+        1 => format!("({drill}){{{}{},}}", less(rng), digits(rng)),
+        // Equal bounds, of any size: right only where both are reached.
+        2 => {
+            let number = digits(rng);
+            format!("({drill}){{{}{number},{}{number}}}", less(rng), less(rng))
+        }
+        3 | 4 => format!("({drill}){}", near_band(rng)),
         _ => {
+            let (lo, hi) = (rng.between(0, 4), rng.between(0, 4));
             let band = Band {
-                lo: rng.between(0, 6),
-                hi: Some(rng.between(0, 6)),
+                lo: random::bound(rng, lo),
+                hi: Some(random::bound(rng, hi)),
             };
             Drill::Within(Box::new(drill), band).to_string()
         }
@@ -189,6 +200,30 @@ fn outside(rng: &mut Rng) -> Input {
         recording: random::recording(rng, head, 6),
         drill: text.into_bytes(),
     }
+}
+
+/// What stands before a bound: a `<`, or nothing.
+fn less(rng: &mut Rng) -> &'static str {
+    if rng.once_in(2) {
+        "<"
+    } else {
+        ""
+    }
+}
+
+/// A right band with a byte or two put in or taken out anywhere: a `<` may come to stand where it
+/// belongs, twice, behind its number, or before none.
+fn near_band(rng: &mut Rng) -> String {
+    let mut text = random::band(rng, 12).to_string();
+    for _ in 0..rng.between(1, 2) {
+        let at = rng.below(text.len() as u64) as usize;
+        if rng.once_in(3) {
+            text.remove(at);
+        } else {
+            text.insert(at, *rng.pick(&['<', '<', '<', '0', ' ', ',']));
+        }
+    }
+    text
 }
 
 /// A number as a drill might have it, of any length.
@@ -228,6 +263,11 @@ fn crowded(rng: &mut Rng) -> Input {
         "(a|!a)*",
         "(a.!a){0,4}",
         "a{2,}.!a",
+        "a{<0,<3}|a",
+        "a|a{0,<3}",
+        "(a{0,<2})*",
+        "(a.!a){<1,<4}",
+        "a{<1,}.!a",
     ];
     let mut time = rng.between(0, 30);
     let mut changes = Vec::new();
@@ -309,5 +349,33 @@ fn damage(rng: &mut Rng, bytes: &mut Vec<u8>, alphabet: &[u8]) {
         _ => {
             bytes.remove(at);
         }
+    }
+}
+
+#[cfg(test)]
+mod tests {
+    use super::*;
+    use crate::refusal::Refusal;
+
+    /// Drills with a `<` are accepted and refused often enough, by 5 and by 7.
+    #[test]
+    fn bounds_that_are_not_reached_come_up_right_and_wrong() {
+        let mut rng = Rng::new(1, 4);
+        let (mut right, mut of_no_form, mut wrong) = (0, 0, 0);
+        for _ in 0..2_000 {
+            let drill = outside(&mut rng).drill;
+            if !drill.contains(&b'<') {
+                continue;
+            }
+            match Drill::read(&drill, 16) {
+                Ok(_) => right += 1,
+                Err(Refusal::DrillForm) => of_no_form += 1,
+                Err(Refusal::Band) => wrong += 1,
+                Err(_) => (),
+            }
+        }
+        assert!(right > 200, "{right}");
+        assert!(of_no_form > 200, "{of_no_form}");
+        assert!(wrong > 200, "{wrong}");
     }
 }

@@ -1,6 +1,6 @@
 //! Random numbers, recordings and drills, all from a seed.
 
-use crate::drill::{Band, Drill};
+use crate::drill::{Band, Bound, Drill};
 use crate::recording::{encode, Change, Head};
 
 /// The splitmix64 generator.
@@ -75,7 +75,7 @@ pub struct Taste {
     /// Letters, `!` with its letter and `_` in the drill, at most.
     pub leaves: u32,
     pub channels: u8,
-    /// The highest limit of a band.
+    /// The highest bound of a band.
     pub limit: u32,
     /// Whether `*` may stand in it.
     pub stars: bool,
@@ -143,7 +143,32 @@ pub fn band(rng: &mut Rng, limit: u32) -> Band {
         2 => Some(limit.min(lo + rng.between(0, 3))),
         _ => Some(rng.between(lo, limit)),
     };
-    Band { lo, hi }
+    bounded(rng, lo, hi)
+}
+
+/// The band of two numbers in order, each reached or not. Where they are equal both are, or
+/// nothing would be between them.
+pub fn bounded(rng: &mut Rng, lo: u32, hi: Option<u32>) -> Band {
+    if hi == Some(lo) {
+        let both = Bound::Reached(lo);
+        return Band {
+            lo: both,
+            hi: Some(both),
+        };
+    }
+    Band {
+        lo: bound(rng, lo),
+        hi: hi.map(|hi| bound(rng, hi)),
+    }
+}
+
+/// As often reached as not.
+pub fn bound(rng: &mut Rng, ticks: u32) -> Bound {
+    if rng.once_in(2) {
+        Bound::NotReached(ticks)
+    } else {
+        Bound::Reached(ticks)
+    }
 }
 
 /// The drill's text with brackets that it could do without.
@@ -168,6 +193,23 @@ mod tests {
             let bytes = recording(&mut rng, head, 10);
             assert!(Recording::read(&bytes).is_ok());
         }
+    }
+
+    #[test]
+    fn random_bounds_are_reached_or_not() {
+        let mut rng = Rng::new(1, 3);
+        let bands: Vec<Band> = (0..2_000).map(|_| band(&mut rng, 12)).collect();
+        let often = |meets: &dyn Fn(&Band) -> bool| bands.iter().filter(|b| meets(b)).count() > 150;
+        for lo in [true, false] {
+            for hi in [Some(true), Some(false), None] {
+                let reached = |b: &Band| (b.lo.is_reached(), b.hi.map(Bound::is_reached));
+                assert!(often(&|b| reached(b) == (lo, hi)), "{lo:?} {hi:?}");
+            }
+        }
+        assert!(often(&|b| b.hi == Some(b.lo)));
+        // Neighbouring ticks with neither of them reached, where only fractions are left.
+        let between = |b: &Band| b.hi == Some(Bound::NotReached(b.lo.ticks() + 1));
+        assert!(bands.iter().any(|b| between(b) && !b.lo.is_reached()));
     }
 
     #[test]

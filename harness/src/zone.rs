@@ -98,11 +98,12 @@ impl Zone {
         tighten(std::array::from_fn(|k| self.0[k].min(other.0[k])))
     }
 
-    /// The stretches of the zone with lo ≤ length ≤ hi, if any; no hi is no upper limit.
-    pub fn within(&self, lo: i32, hi: Option<i32>) -> Option<Zone> {
+    /// The stretches of the zone that also keep to a limit on start - end and, if there is one,
+    /// to a limit on end - start.
+    pub fn within(&self, minus_length: i32, length: Option<i32>) -> Option<Zone> {
         let [s, ms, e, me, l, ml] = self.0;
-        let l = hi.map_or(l, |hi| l.min(reached(hi)));
-        tighten([s, ms, e, me, l, ml.min(reached(-lo))])
+        let l = length.map_or(l, |length| l.min(length));
+        tighten([s, ms, e, me, l, ml.min(minus_length)])
     }
 
     /// The stretches with some cut whose left part lies in this zone and right part in the next.
@@ -196,23 +197,42 @@ mod tests {
         }
     }
 
-    fn composed_by_elimination(left: &Zone, right: &Zone) -> Option<Zone> {
+    fn unlimited() -> [[i32; 4]; 4] {
         let mut limits = [[NONE; 4]; 4];
         for (k, row) in limits.iter_mut().enumerate() {
             row[k] = reached(0);
         }
+        limits
+    }
+
+    /// A zone within limits on its length, with the times 0, start and end alone.
+    fn within_by_elimination(zone: &Zone, minus_length: i32, length: i32) -> Option<Zone> {
+        let mut limits = unlimited();
+        let [start, end] = [1, 3];
+        place(&mut limits, zone, start, end);
+        limits[start][end] = limits[start][end].min(minus_length);
+        limits[end][start] = limits[end][start].min(length);
+        closed(limits).map(|shortest| between(&shortest))
+    }
+
+    fn composed_by_elimination(left: &Zone, right: &Zone) -> Option<Zone> {
+        let mut limits = unlimited();
         place(&mut limits, left, 1, 2);
         place(&mut limits, right, 2, 3);
-        let shortest = closed(limits)?;
+        closed(limits).map(|shortest| between(&shortest))
+    }
+
+    /// The limits of a table on start and end.
+    fn between(shortest: &[[i32; 4]; 4]) -> Zone {
         let [start, end] = [1, 3];
-        Some(Zone([
+        Zone([
             shortest[start][0],
             shortest[0][start],
             shortest[end][0],
             shortest[0][end],
             shortest[end][start],
             shortest[start][end],
-        ]))
+        ])
     }
 
     #[test]
@@ -227,6 +247,38 @@ mod tests {
             left_something += usize::from(composed.is_some());
         }
         assert!((5_000..45_000).contains(&left_something));
+    }
+
+    #[test]
+    fn limits_on_the_length_leave_a_tight_zone() {
+        let mut rng = Rng::new(1, 1);
+        let mut left_something = 0;
+        for _ in 0..50_000 {
+            let zone = any_zone(&mut rng);
+            // From 0 to 6, reached or not.
+            let (lo, hi) = (1 - rng.below(14) as i32, rng.below(14) as i32);
+            let within = zone.within(lo, Some(hi));
+            let expected = within_by_elimination(&zone, lo, hi);
+            assert_eq!(within, expected, "{zone:?} {lo} {hi}");
+            let unbounded = within_by_elimination(&zone, lo, NONE);
+            assert_eq!(zone.within(lo, None), unbounded, "{zone:?} {lo}");
+            left_something += usize::from(within.is_some());
+        }
+        assert!((5_000..45_000).contains(&left_something));
+    }
+
+    #[test]
+    fn a_limit_that_is_not_reached_leaves_its_length_out() {
+        let run = Zone::run(2, 7);
+        let longer = run.within(not_reached(-2), None).unwrap();
+        let at_least = run.within(reached(-2), None).unwrap();
+        // Of length 2, of length 2 1/6, and of length 5, all from tick 2.
+        assert!(at_least.has(12, 24, 6) && at_least.has(12, 25, 6) && at_least.has(12, 42, 6));
+        assert!(!longer.has(12, 24, 6) && longer.has(12, 25, 6) && longer.has(12, 42, 6));
+        let shorter = run.within(not_reached(0), Some(not_reached(5))).unwrap();
+        assert!(shorter.has(12, 41, 6) && !shorter.has(12, 42, 6));
+        assert_eq!(run.within(not_reached(-5), None), None);
+        assert_eq!(run.within(reached(-5), Some(not_reached(5))), None);
     }
 
     #[test]

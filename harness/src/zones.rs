@@ -3,10 +3,10 @@
 //! Every put that a rule names is made, in the rule's order, since order and rounds are part of
 //! the answer. What is saved is in how a put is made, never in how many are.
 
-use crate::drill::{Band, Drill};
+use crate::drill::{Band, Bound, Drill};
 use crate::recording::Recording;
 use crate::refusal::Refusal;
-use crate::zone::Zone;
+use crate::zone::{not_reached, reached, Zone};
 
 /// The most zones that a list may hold.
 pub const MAX_ZONES: usize = 128;
@@ -197,10 +197,12 @@ impl<'a> Matcher<'a> {
 
     fn within(&mut self, inner: &Drill, band: Band) -> Result<List, Stop> {
         let inner = self.list(inner)?;
-        let (lo, hi) = (band.lo as i32, band.hi.map(|hi| hi as i32));
+        // A lower bound on the length is an upper limit on its negation.
+        let minus_length = limit(band.lo, -1);
+        let length = band.hi.map(|hi| limit(hi, 1));
         let mut list = List::new();
         for zone in inner.zones() {
-            list.put_if_any(zone.within(lo, hi))?;
+            list.put_if_any(zone.within(minus_length, length))?;
         }
         Ok(list)
     }
@@ -234,5 +236,13 @@ impl<'a> Matcher<'a> {
         let pairs = (before.zones().len() * inner.zones().len()) as u64;
         self.budget = self.budget.checked_sub(pairs).ok_or(Stop::OverBudget)?;
         Ok(())
+    }
+}
+
+/// The word of a bound as a limit, its number times the sign.
+fn limit(bound: Bound, sign: i32) -> i32 {
+    match bound {
+        Bound::Reached(ticks) => reached(sign * ticks as i32),
+        Bound::NotReached(ticks) => not_reached(sign * ticks as i32),
     }
 }

@@ -5,12 +5,13 @@ use mathlib.Core.Logic.{inl, inr}
 use Prim.Native.Nat.{ℕ, suc, _-_, _<_, _≤_, max}
 use native.Mathlib.Omega.{arith}
 use Rattle.expression.specs.declared.Range.{Range}
+use Rattle.expression.specs.declared.End.{End}
 use Rattle.expression.specs.declared.Upper.{Upper}
 use Rattle.expression.specs.declared.Upper.the-variants.{Endless, UpTo}
 use Rattle.expression.specs.declared.Node.{Node}
 use Rattle.expression.specs.declared.Node.the-variants.{Epsilon, Literal, Infix, Applied}
 use Rattle.expression.specs.Expression.{Expression, epsilon, literal, join, Star, Band, unary, depth, letters, ranges}
-use Rattle.expression.specs.Refusal.{Wrong, wrong-letter, wrong-range, too-deep, Accepted}
+use Rattle.expression.specs.Refusal.{figure, Wrong, wrong-letter, wrong-range, too-deep, Accepted}
 use Rattle.expression.specs.Stored.{
   nodeAt,
   Stored,
@@ -79,13 +80,13 @@ operands p = made (p .stored) (p .shallow) (p .known) (p .right)
 -- the bounds of a range that is not wrong
 abbrev pub InOrder : ℕ → Upper → Type 0
 InOrder lo Endless = Unit {0}
-InOrder lo (UpTo hi) = (lo ≤ hi) × (hi ≤ 1000000)
+InOrder lo (UpTo hi) = (lo ≤ figure hi) × (figure hi ≤ 1000000)
 
 -- A range that is not wrong has bounds of at most 1,000,000, in order.
-pub right-range : (lo : ℕ) (hi : Upper) → (Wrong (record { lo = lo; hi = hi }) → ⊥) → (lo ≤ 1000000) × InOrder lo hi
-right-range lo Endless w = let a : 1000000 < lo → ⊥ = λ h. w (inl h) in (omega arith, tt)
+pub right-range : (lo : End) (hi : Upper) → (Wrong (record { lo = lo; hi = hi }) → ⊥) → (figure lo ≤ 1000000) × InOrder (figure lo) hi
+right-range lo Endless w = let a : 1000000 < figure lo → ⊥ = λ h. w (inl h) in (omega arith, tt)
 right-range lo (UpTo hi) w =
-    let a : 1000000 < lo → ⊥ = λ h. w (inl h) in
-    let b : 1000000 < hi → ⊥ = λ h. w (inr (inl h)) in
-    let c : hi < lo → ⊥ = λ h. w (inr (inr h)) in
+    let a : 1000000 < figure lo → ⊥ = λ h. w (inl h) in
+    let b : 1000000 < figure hi → ⊥ = λ h. w (inr (inl h)) in
+    let c : figure hi < figure lo → ⊥ = λ h. w (inr (inr (inl h))) in
     (omega arith, (omega arith, omega arith))

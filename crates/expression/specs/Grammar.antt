@@ -1,8 +1,10 @@
 -- Document 01's grammar: `Form l text e` says that the text is of the level l, and that it is the expression e.
--- Bytes: 33 `!`, 38 `&`, 40 `(`, 41 `)`, 42 `*`, 44 `,`, 46 `.`, 48 `0`, 95 `_`, 97 `a`, 123 `{`, 124 `|`, 125 `}`.
+-- Bytes: 33 `!`, 38 `&`, 40 `(`, 41 `)`, 42 `*`, 44 `,`, 46 `.`, 48 `0`, 60 `<`, 95 `_`, 97 `a`, 123 `{`, 124 `|`, 125 `}`.
 use Prim.Native.Nat.{ℕ, _+_, _*_, _<_}
 use mathlib.Core.List.{List, [], _∷_, _++_}
 use Rattle.expression.specs.declared.Range.{Range}
+use Rattle.expression.specs.declared.End.{End}
+use Rattle.expression.specs.declared.End.the-variants.{Closed, Open}
 use Rattle.expression.specs.declared.Upper.the-variants.{Endless, UpTo}
 use Rattle.expression.specs.Expression.{Expression, epsilon, High, Low, literal, Union, Intersection, Concatenation, join, Star, Band, unary}
 
@@ -11,10 +13,15 @@ pub data Number : List ℕ → ℕ → Type 0 where
   digit : {d : ℕ} → d < 10 → Number ((48 + d) ∷ []) d
   digit-after : {s : List ℕ} {n d : ℕ} → Number s n → 0 < n → d < 10 → Number (s ++ ((48 + d) ∷ [])) (n * 10 + d)
 
+-- "A `<` before lo or hi makes that end not reached"
+pub data Bound : List ℕ → End → Type 0 where
+  reached : {s : List ℕ} {n : ℕ} → Number s n → Bound s (Closed n)
+  not-reached : {s : List ℕ} {n : ℕ} → Number s n → Bound (60 ∷ s) (Open n)
+
 -- what stands between the braces; "hi may be missing, meaning no upper limit"
 pub data Limits : List ℕ → Range → Type 0 where
-  from : {s : List ℕ} {lo : ℕ} → Number s lo → Limits (s ++ (44 ∷ [])) (record { lo = lo; hi = Endless })
-  between : {s u : List ℕ} {lo hi : ℕ} → Number s lo → Number u hi → Limits (s ++ (44 ∷ u)) (record { lo = lo; hi = UpTo hi })
+  from : {s : List ℕ} {lo : End} → Bound s lo → Limits (s ++ (44 ∷ [])) (record { lo = lo; hi = Endless })
+  between : {s u : List ℕ} {lo hi : End} → Bound s lo → Bound u hi → Limits (s ++ (44 ∷ u)) (record { lo = lo; hi = UpTo hi })
 
 pub data Level : Type 0 where
   alternative : Level

@@ -5,12 +5,19 @@ use mathlib.Core.List.{List}
 use Prim.Native.Nat.{ℕ, _+_, _*_, _<_, _≤_}
 use lib.Dec.{eqb}
 use lib.ListN.{getD}
+use Rattle.expression.specs.declared.End.{End}
+use Rattle.expression.specs.declared.End.the-variants.{Closed, Open}
+use Rattle.expression.specs.declared.Upper.{Upper}
 use Rattle.expression.specs.declared.Upper.the-variants.{Endless, UpTo}
 use Rattle.expression.specs.declared.Node.{Node}
 use Rattle.expression.specs.declared.Node.the-variants.{Epsilon, Literal, Infix, Applied}
 use Rattle.expression.specs.Expression.{Expression, epsilon, Sign, High, Low, literal, Join, Union, Intersection, Concatenation, join, Unary, Star, Band, unary}
 
--- the node of an operation and three numbers; a band without an upper limit has an operation of its own
+-- the node of a band
+abbrev pub band : End → Upper → ℕ → Node
+band lo hi x = Applied (Band (record { lo = lo; hi = hi })) x
+
+-- the node of an operation and three numbers; a band has an operation for each kind of its ends
 unfoldable pub decoded : ℕ → ℕ → ℕ → ℕ → Node
 decoded op x y z =
     cond (eqb op 1) (Literal High x)
@@ -19,8 +26,12 @@ decoded op x y z =
     (cond (eqb op 4) (Infix Intersection x y)
     (cond (eqb op 5) (Infix Concatenation x y)
     (cond (eqb op 6) (Applied Star x)
-    (cond (eqb op 7) (Applied (Band (record { lo = y; hi = UpTo z })) x)
-    (cond (eqb op 8) (Applied (Band (record { lo = y; hi = Endless })) x) Epsilon)))))))
+    (cond (eqb op 7) (band (Closed y) Endless x)
+    (cond (eqb op 8) (band (Open y) Endless x)
+    (cond (eqb op 9) (band (Closed y) (UpTo (Closed z)) x)
+    (cond (eqb op 10) (band (Closed y) (UpTo (Open z)) x)
+    (cond (eqb op 11) (band (Open y) (UpTo (Closed z)) x)
+    (cond (eqb op 12) (band (Open y) (UpTo (Open z)) x) Epsilon)))))))))))
 
 -- node n of the buffer; past its end every word is 0
 unfoldable pub nodeAt : List ℕ → ℕ → Node

@@ -4,19 +4,29 @@
 // specs/Expression.antt has the expressions, specs/Grammar.antt the texts that document 01 takes for them, specs/Refusal.antt
 // the causes 4 to 8. Which text is which expression is found in `parser`. Nothing is known here of recordings.
 ghost use mathlib.Core.Path.{_≡_};
+ghost use mathlib.Core.Bool.{true};
+ghost use mathlib.Core.Logic.{_↔_};
 ghost use Prim.Native.Nat.{_+_, _*_, _≤_};
 ghost use lib.ListN.{length, getD};
-ghost use Rattle.expression.specs.Stored.{decoded, nodeAt, Placed};
+ghost use Rattle.expression.specs.declared.Upper.the-variants.{UpTo};
+ghost use Rattle.expression.specs.Refusal.{figure, Opened, WrongUpper, Wrong};
+ghost use Rattle.expression.specs.Stored.{band, decoded, nodeAt, Placed};
+
+// An end of a range of lengths, with its number of ticks: one that belongs to the range, or one that does not.
+pub enum End {
+    Closed(u32),
+    Open(u32),
+}
 
 // The upper end of a range of lengths.
 pub enum Upper {
     Endless,
-    UpTo(u32),
+    UpTo(End),
 }
 
-// A range of lengths, in ticks. Both ends belong to it.
+// A range of lengths.
 pub struct Range {
-    pub lo: u32,
+    pub lo: End,
     pub hi: Upper,
 }
 
@@ -47,6 +57,60 @@ pub enum Node {
     Applied(Unary, u32),
 }
 
+fn figure(end: End) -> u32
+    ensures { λ r. ⌜ r ≡ figure end ⌝ }
+{
+    match end {
+        End::Closed(n) => n,
+        End::Open(n) => n,
+    }
+}
+
+fn is_open(end: End) -> bool
+    ensures { λ r. ⌜ (r ≡ true) ↔ Opened end ⌝ }
+{
+    match end {
+        End::Closed(_) => false,
+        End::Open(_) => true,
+    }
+}
+
+// Whether hi is above 1,000,000, or below lo, or equal to it with a `<` on either.
+fn is_wrong_upper(lo: End, hi: End) -> bool
+    ensures { λ r. ⌜ (r ≡ true) ↔ WrongUpper lo (UpTo hi) ⌝ }
+{
+    let least = figure(lo);
+    let most = figure(hi);
+    if 1000000 < most {
+        return true;
+    }
+    if most < least {
+        return true;
+    }
+    if least < most {
+        return false;
+    }
+    if is_open(lo) {
+        return true;
+    }
+    is_open(hi)
+}
+
+// Whether check 7 refuses the range.
+pub fn is_wrong(range: Range) -> bool
+    ensures { λ r. ⌜ (r ≡ true) ↔ Wrong range ⌝ }
+{
+    let lo = range.lo;
+    let hi = range.hi;
+    if 1000000 < figure(lo) {
+        return true;
+    }
+    match hi {
+        Upper::Endless => false,
+        Upper::UpTo(end) => is_wrong_upper(lo, end),
+    }
+}
+
 // The words of a node: its operation, and up to three numbers.
 struct Words(u32, u32, u32, u32);
 
@@ -63,6 +127,12 @@ fn word(nodes: &[u32], i: usize) -> u32
     if i < nodes.len() { nodes[i] } else { 0 }
 }
 
+fn band(lo: End, hi: Upper, operand: u32) -> Node
+    ensures { λ r. ⌜ r ≡ band lo hi operand ⌝ }
+{
+    Node::Applied(Unary::Band(Range { lo, hi }), operand)
+}
+
 // The node that four words stand for.
 fn node_of(op: u32, x: u32, y: u32, z: u32) -> Node
     ensures { λ r. ⌜ r ≡ decoded op x y z ⌝ }
@@ -74,20 +144,12 @@ fn node_of(op: u32, x: u32, y: u32, z: u32) -> Node
         4 => Node::Infix(Join::Intersection, x, y),
         5 => Node::Infix(Join::Concatenation, x, y),
         6 => Node::Applied(Unary::Star, x),
-        7 => Node::Applied(
-            Unary::Band(Range {
-                lo: y,
-                hi: Upper::UpTo(z),
-            }),
-            x,
-        ),
-        8 => Node::Applied(
-            Unary::Band(Range {
-                lo: y,
-                hi: Upper::Endless,
-            }),
-            x,
-        ),
+        7 => band(End::Closed(y), Upper::Endless, x),
+        8 => band(End::Open(y), Upper::Endless, x),
+        9 => band(End::Closed(y), Upper::UpTo(End::Closed(z)), x),
+        10 => band(End::Closed(y), Upper::UpTo(End::Open(z)), x),
+        11 => band(End::Open(y), Upper::UpTo(End::Closed(z)), x),
+        12 => band(End::Open(y), Upper::UpTo(End::Open(z)), x),
         _ => Node::Epsilon,
     }
 }
@@ -103,6 +165,28 @@ pub fn node_at(nodes: &[u32], n: u32) -> Node
         word(nodes, i + 2),
         word(nodes, i + 3),
     )
+}
+
+// The words that stand for a band. Which of its ends belong to it is a part of the operation.
+fn band_words(lo: End, hi: Upper, operand: u32) -> Words
+    ensures { λ r. ⌜ decoded (r .0) (r .1) (r .2) (r .3) ≡ band lo hi operand ⌝ }
+{
+    match hi {
+        Upper::Endless => match lo {
+            End::Closed(n) => Words(7, operand, n, 0),
+            End::Open(n) => Words(8, operand, n, 0),
+        },
+        Upper::UpTo(end) => match lo {
+            End::Closed(n) => match end {
+                End::Closed(m) => Words(9, operand, n, m),
+                End::Open(m) => Words(10, operand, n, m),
+            },
+            End::Open(n) => match end {
+                End::Closed(m) => Words(11, operand, n, m),
+                End::Open(m) => Words(12, operand, n, m),
+            },
+        },
+    }
 }
 
 // The words that stand for a node.
@@ -123,11 +207,9 @@ fn words_of(node: Node) -> Words
         Node::Applied(op, operand) => match op {
             Unary::Star => Words(6, operand, 0, 0),
             Unary::Band(range) => {
+                let lo = range.lo;
                 let hi = range.hi;
-                match hi {
-                    Upper::UpTo(n) => Words(7, operand, range.lo, n),
-                    Upper::Endless => Words(8, operand, range.lo, 0),
-                }
+                band_words(lo, hi, operand)
             }
         },
     }

@@ -1,5 +1,6 @@
 // Reads drills from standard input, one to a line after a letter that is the last channel of a recording, and writes
 // for each the number of its refusal, or 0 and its tree with every operator before its operands.
+use expression::End;
 use expression::Join;
 use expression::Node;
 use expression::Sign;
@@ -20,13 +21,24 @@ fn print_letter(channel: u32) {
     io::write_all(1, &letter);
 }
 
+fn print_end(end: End) {
+    match end {
+        End::Closed(n) => print_number(n),
+        End::Open(n) => {
+            print(b"<");
+            print_number(n);
+        }
+    }
+}
+
 fn print_range(range: expression::Range) {
     print(b"{");
-    print_number(range.lo);
+    let lo = range.lo;
+    print_end(lo);
     print(b",");
     let hi = range.hi;
     match hi {
-        Upper::UpTo(n) => print_number(n),
+        Upper::UpTo(end) => print_end(end),
         Upper::Endless => {}
     }
     print(b"}");

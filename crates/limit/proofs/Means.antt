@@ -24,7 +24,3 @@ small-most h = h
 
 pub small-least : {n m : ℕ} → n ≤ m → Small m (least n)
 small-least {n} h = omega (arithZ, neg (pos n), size (negℤ (pos n)))
-
--- one number makes one limit
-pub most-same : {n m : ℕ} → most n ≡ most m → n ≡ m
-most-same e = cc

@@ -76,6 +76,10 @@ marked =
     ∷ drill "a{5,5}" number 0 rounds 0 zones (start ⟦ 2 ‥ 2 ⟧ end ⟦ 7 ‥ 7 ⟧ length ⟦ 5 ‥ 5 ⟧ ∷ [])
     ∷ drill "a{6,}" number 0 rounds 0 zones []
     ∷ drill "a{0,0}" number 0 rounds 0 zones []
+    ∷ drill "a{<2,5}" number 0 rounds 0 zones (start ⟦ 2 ‥ 5 ⟯ end ⟮ 4 ‥ 7 ⟧ length ⟮ 2 ‥ 5 ⟧ ∷ [])
+    ∷ drill "a{2,<5}" number 0 rounds 0 zones (start ⟦ 2 ‥ 5 ⟧ end ⟦ 4 ‥ 7 ⟧ length ⟦ 2 ‥ 5 ⟯ ∷ [])
+    ∷ drill "a{<0,}" number 0 rounds 0 zones (start ⟦ 2 ‥ 7 ⟯ end ⟮ 2 ‥ 7 ⟧ length ⟮ 0 ‥ 5 ⟧ ∷ [])
+    ∷ drill "a{<5,}" number 0 rounds 0 zones []
     ∷ drill "a&!a" number 0 rounds 0 zones []
     ∷ drill "_" number 0 rounds 0 zones (start ⟦ 0 ‥ 10 ⟧ end ⟦ 0 ‥ 10 ⟧ length ⟦ 0 ‥ 0 ⟧ ∷ [])
     ∷ 24 ms-is-tick 2

@@ -2,7 +2,6 @@
 use mathlib.Core.Logic.{_↔_, ⊎-map, ⊎-elim}
 use Prim.Native.Nat.{ℕ, suc}
 use Rattle.limit.specs.Time.{Time, tick, _≤ᵀ_, _<ᵀ_, _≈ᵀ_}
-use Rattle.limit.specs.Limit.{most, least}
 use Rattle.limit.proofs.Times.{≤-trans, <-≤, ≈-≤, ≈-refl, ≈-sym, ≈-trans, within-same}
 use Rattle.star.specs.Pieces.{Pieces, Pieces.none, Pieces.more}
 use Rattle.recording.specs.declared.Level.{Level}
@@ -11,7 +10,7 @@ use Rattle.expression.specs.declared.Upper.the-variants.{Endless, UpTo}
 use Rattle.expression.specs.declared.Join.the-variants.{Union, Intersection, Concatenation}
 use Rattle.expression.specs.declared.Unary.the-variants.{Star, Band}
 use Rattle.expression.specs.Expression.{Expression, epsilon, literal, join, unary}
-use Rattle.meaning.specs.Satisfies.{Throughout, NoLonger, Satisfies}
+use Rattle.meaning.specs.Satisfies.{Throughout, upperLimit, lowerLimit, NoLonger, Satisfies}
 use Rattle.meaning.proofs.Strict.{<-same, <-trans, ≤-<-trans, <-≤-trans, common, tick-next}
 
 -- ---- pieces
@@ -50,7 +49,7 @@ throughout-is = (
 
 no-longer-same : (hi : Upper) {x y u v : Time} → x ≈ᵀ u → y ≈ᵀ v → NoLonger hi x y → NoLonger hi u v
 no-longer-same Endless p q h = tt
-no-longer-same (UpTo hi) p q h = within-same (most hi) q p h
+no-longer-same (UpTo hi) p q h = within-same (upperLimit hi) q p h
 
 module _ (Shows : ℕ → Level → ℕ → Type 0) where
   -- Equal times satisfy alike: 1/1 and 2/2 are one time everywhere.
@@ -64,7 +63,7 @@ module _ (Shows : ℕ → Level → ℕ → Type 0) where
       (t, ≤-trans (≈-≤ p .1) (h .1), ≤-trans (h .2) (≈-≤ q .0), satisfies-same e x t u t p (≈-refl t) (h .3), satisfies-same f t y t v (≈-refl t) q (h .4))
   satisfies-same (unary Star e) x y u v p q h = (h .0, pieces-same (satisfies-same e) p q (h .1))
   satisfies-same (unary (Band r) e) x y u v p q h =
-      (satisfies-same e x y u v p q (h .0), (within-same (least (r .lo)) p q (h .1 .0), no-longer-same (r .hi) p q (h .1 .1)))
+      (satisfies-same e x y u v p q (h .0), (within-same (lowerLimit (r .lo)) p q (h .1 .0), no-longer-same (r .hi) p q (h .1 .1)))
 
   -- A satisfying stretch has start ≤ end.
   pub satisfies-forward : (e : Expression) (x y : Time) → Satisfies Shows e x y → x ≤ᵀ y

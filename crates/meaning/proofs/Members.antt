@@ -29,8 +29,8 @@ use Rattle.expression.specs.declared.Upper.the-variants.{Endless, UpTo}
 use Rattle.expression.specs.declared.Join.the-variants.{Union, Intersection, Concatenation}
 use Rattle.expression.specs.declared.Unary.the-variants.{Star, Band}
 use Rattle.expression.specs.Expression.{Expression, epsilon, literal, join, unary}
-use Rattle.meaning.specs.Satisfies.{Throughout, NoLonger, Lasts, levelOf, Satisfies}
-use Rattle.meaning.specs.Lists.{value, runZones, Letter, longest, shortest, rangeBand, Evaluates}
+use Rattle.meaning.specs.Satisfies.{Throughout, lowerLimit, NoLonger, Lasts, levelOf, Satisfies}
+use Rattle.meaning.specs.Lists.{value, runZones, Letter, longest, rangeBand, Evaluates}
 use Rattle.meaning.proofs.Strict.{≤-<-trans, <-≤-trans, tick-<, floor, floor-≤, floor-<}
 use Rattle.meaning.proofs.Meaning.{pieces-forward, satisfies-forward}
 use Rattle.meaning.proofs.Evaluation.{FiniteVariability, listed-of, then-parts, both-parts, closes-parts, letter-parts, evaluates-well}
@@ -84,10 +84,10 @@ longest-is : (hi : Upper) {from to : ℕ} {x y : Time} → from ≤ to → Stret
 longest-is Endless h s = (λ _. tt, λ _. whole-most h (s .0) (s .1) (s .2))
 longest-is (UpTo hi) h s = (λ w. w, λ w. w)
 
--- The band handed to the zone layer is document 01's: of the stretches inside from..to it holds those with lo ≤ end − start ≤ hi.
+-- The band handed to the zone layer is document 01's: of the stretches inside from..to it holds those with lo ≤ end − start ≤ hi, or < where it is written.
 pub range-band : (r : Range) {from to : ℕ} {x y : Time} → from ≤ to → Stretch from to x y → InMaybe (rangeBand from to r) x y ↔ Lasts r x y
 range-band r {from} {to} {x} {y} h s =
-    let b = band-members from to (longest from to (r .hi)) (shortest (r .lo)) x y in
+    let b = band-members from to (longest from to (r .hi)) (lowerLimit (r .lo)) x y in
     let l = longest-is (r .hi) h s in
     (λ i. let m = b .0 i in (m .2, l .0 (m .1)), λ i. b .1 (s, l .1 (i .1), i .0))
 

@@ -7,7 +7,7 @@ use Rattle.zone.specs.declared.Zone.{Zone}
 use Rattle.zone.specs.declared.MaybeZone.{MaybeZone}
 use Rattle.zone.specs.declared.MaybeZone.the-variants.{Zone as zone}
 use Rattle.limit.specs.declared.Limit.{Limit}
-use Rattle.limit.specs.Limit.{most, least}
+use Rattle.limit.specs.Limit.{most}
 use Rattle.zone.specs.Zone.{run, diagonal, band as bandOf}
 use Rattle.list.specs.Insert as puts
 use Rattle.list.specs.Insert.{Built, listed, insert-each}
@@ -25,7 +25,7 @@ use Rattle.expression.specs.declared.Join.the-variants.{Union, Intersection, Co
 use Rattle.expression.specs.declared.Unary.{Unary}
 use Rattle.expression.specs.declared.Unary.the-variants.{Star, Band}
 use Rattle.expression.specs.Expression.{Expression, epsilon, literal, join, unary}
-use Rattle.meaning.specs.Satisfies.{levelOf}
+use Rattle.meaning.specs.Satisfies.{levelOf, upperLimit, lowerLimit}
 
 -- what an expression comes to: its list and its total of rounds, or that "a put would leave a list of 129 zones"
 pub data Value : Type 0 where
@@ -59,16 +59,14 @@ pub record Letter (P : ℕ → Type 0) (from to : ℕ) (v : Value) : Type 0 wher
   pub maximal : Runs P from to runs
   pub built : v ≡ ended (insert-each (runZones runs) []) 0
 
--- the limits of a band, on end − start and on start − end; a missing hi is to − from, which no stretch exceeds
+-- the limit of a band on end − start; a missing hi is to − from, reached, which no stretch exceeds
 abbrev pub longest : ℕ → ℕ → Upper → Limit
 longest from to Endless = most (to - from)
-longest from to (UpTo hi) = most hi
+longest from to (UpTo hi) = upperLimit hi
 
-abbrev pub shortest : ℕ → Limit
-shortest lo = least lo
-
+-- "The band's meet now carries a reached or not reached limit on either end"
 abbrev pub rangeBand : ℕ → ℕ → Range → MaybeZone
-rangeBand from to r = bandOf from to (longest from to (r .hi)) (shortest (r .lo))
+rangeBand from to r = bandOf from to (longest from to (r .hi)) (lowerLimit (r .lo))
 
 -- the star of the operand's list A, after the operand's r rounds: "begin with the inner list", rounds, "Then the diagonal is put"
 pub record Closes (from to : ℕ) (A : List Zone) (r : ℕ) (v : Value) : Type 0 where

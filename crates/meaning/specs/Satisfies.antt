@@ -3,11 +3,14 @@
 use mathlib.Core.Logic.{_⊎_}
 use Prim.Native.Nat.{ℕ, suc}
 use Rattle.limit.specs.Time.{Time, tick, _≤ᵀ_, _<ᵀ_, _≈ᵀ_}
-use Rattle.limit.specs.Limit.{Within, most, least}
+use Rattle.limit.specs.declared.Limit.{Limit}
+use Rattle.limit.specs.Limit.{Within, most, least, less, more}
 use Rattle.star.specs.Pieces.{Pieces}
 use Rattle.recording.specs.declared.Level.{Level}
 use Rattle.recording.specs.declared.Level.the-variants.{High, Low}
 use Rattle.expression.specs.declared.Range.{Range}
+use Rattle.expression.specs.declared.End.{End}
+use Rattle.expression.specs.declared.End.the-variants.{Closed, Open}
 use Rattle.expression.specs.declared.Upper.{Upper}
 use Rattle.expression.specs.declared.Upper.the-variants.{Endless, UpTo}
 use Rattle.expression.specs.declared.Sign.{Sign}
@@ -21,14 +24,23 @@ pub record Throughout (P : ℕ → Type 0) (x y : Time) : Type 0 where
   pub some : x <ᵀ y
   pub each : (n : ℕ) → x <ᵀ tick (suc n) → tick n <ᵀ y → P n
 
--- "end − start ≤ hi"; "hi may be missing, meaning no upper limit"
+-- The limits that an end of a range sets, as hi on end − start, and as lo on start − end: "A `<` before lo or hi makes that end not reached".
+abbrev pub upperLimit : End → Limit
+upperLimit (Closed n) = most n
+upperLimit (Open n) = less n
+
+abbrev pub lowerLimit : End → Limit
+lowerLimit (Closed n) = least n
+lowerLimit (Open n) = more n
+
+-- "end − start ≤ hi", or < hi; "hi may be missing, meaning no upper limit"
 abbrev pub NoLonger : Upper → Time → Time → Type 0
 NoLonger Endless x y = Unit {0}
-NoLonger (UpTo hi) x y = Within (most hi) y x
+NoLonger (UpTo hi) x y = Within (upperLimit hi) y x
 
--- "lo ≤ end − start ≤ hi"
+-- "lo ≤ end − start ≤ hi", with < for an end that has one
 abbrev pub Lasts : Range → Time → Time → Type 0
-Lasts r x y = Within (least (r .lo)) x y × NoLonger (r .hi) x y
+Lasts r x y = Within (lowerLimit (r .lo)) x y × NoLonger (r .hi) x y
 
 -- the level that a letter asks for: "a letter", and "`!` the same with low"
 abbrev pub levelOf : Sign → Level
@@ -48,5 +60,5 @@ Satisfies Shows (join Intersection e f) x y = Satisfies Shows e x y × Satisfies
 Satisfies Shows (join Concatenation e f) x y = (t : Time) × (x ≤ᵀ t) × (t ≤ᵀ y) × Satisfies Shows e x t × Satisfies Shows f t y
 -- "some number of consecutive pieces that each fit the operand, zero (start = end) included"
 Satisfies Shows (unary Star e) x y = (n : ℕ) × Pieces (λ s t. Satisfies Shows e s t) n x y
--- "also lo ≤ end − start ≤ hi"
+-- "also lo ≤ end − start ≤ hi", or < where it is written
 Satisfies Shows (unary (Band r) e) x y = Satisfies Shows e x y × Lasts r x y

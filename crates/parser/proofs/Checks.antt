@@ -1,22 +1,24 @@
 -- The three sums that the readers keep, against the letters and the ranges of an expression.
 use mathlib.Core.Path.{_≡_, refl, sym, ap, _∙_}
-use mathlib.Core.Bool.{Bool, true, false, _||_}
+use mathlib.Core.Bool.{Bool, true, false, cond, _||_}
 use mathlib.Core.List.{List, _++_, List·Memᴰ, List·Memᴰ·head, List·Memᴰ·tail, List·Memᴰ·cases-cons, List·Memᴰ·not-nil, List·Memᴰ·eq-of-singleton, List·Memᴰ·append-cases, Memᴰ·append-left, Memᴰ·append-right}
-use mathlib.Core.Logic.{_⊎_, inl, inr, ⊎-elim}
+use mathlib.Core.Logic.{_⊎_, _↔_, inl, inr, ⊎-elim}
 use Prim.Native.Nat.{ℕ, _<_, _≤_, min, max}
 use native.Mathlib.Omega.{arith}
-use lib.Dec.{ltb}
-use borrow.Author.Tests.{ltb-true, ltb-false, lt-ltb, le-ltb}
+use lib.Dec.{eqb, ltb}
+use borrow.Author.Tests.{ltb-true, ltb-false, eqb-true, lt-ltb, le-ltb, eq-eqb}
 use Rattle.expression.specs.declared.Range.{Range}
+use Rattle.expression.specs.declared.End.{End}
+use Rattle.expression.specs.declared.End.the-variants.{Closed, Open}
 use Rattle.expression.specs.declared.Upper.{Upper}
 use Rattle.expression.specs.declared.Upper.the-variants.{Endless, UpTo}
 use Rattle.expression.specs.declared.Unary.{Unary}
 use Rattle.expression.specs.declared.Unary.the-variants.{Star, Band}
 use Rattle.expression.specs.Expression.{Expression, epsilon, literal, join, unary, letters, ranges}
-use Rattle.expression.specs.Refusal.{WrongUpper, Wrong}
-use Rattle.tokens.specs.Tokens.{cap, cappedUpper, cappedRange, cappedUnary}
-use Rattle.parser.specs.Readers.{capped, width, wrongUpper, wrongRange, wrongUnary, wrong}
-use Rattle.tokens.proofs.Text.{false-true}
+use Rattle.expression.specs.Refusal.{figure, Opened, WrongUpper, Wrong}
+use Rattle.tokens.specs.Tokens.{cap, cappedEnd, cappedUpper, cappedRange, cappedUnary}
+use Rattle.parser.specs.Readers.{capped, width, opened, wrongUpper, wrongRange, wrongUnary, wrong}
+use Rattle.expression.proofs.Ranges.{false-true}
 
 or-some : (a b : Bool) → (a || b) ≡ true → (a ≡ true) ⊎ (b ≡ true)
 or-some true b e = inl refl
@@ -62,23 +64,59 @@ letter-beyond (unary u e) c h = letter-beyond e c h
 
 -- RANGES
 
-wrong-upper-some : (lo : ℕ) (hi : Upper) → wrongUpper lo hi ≡ true → WrongUpper lo hi
-wrong-upper-some lo Endless e = absurd (false-true e)
-wrong-upper-some lo (UpTo hi) e = ⊎-elim (λ a. inl (ltb-true _ _ a)) (λ a. inr (ltb-true _ _ a)) (or-some _ _ e)
+opened-some : (e : End) → opened e ≡ true → Opened e
+opened-some (Closed n) h = absurd (false-true h)
+opened-some (Open n) h = tt
 
-wrong-upper-none : (lo : ℕ) (hi : Upper) → wrongUpper lo hi ≡ false → WrongUpper lo hi → ⊥
+opened-none : (e : End) → opened e ≡ false → Opened e → ⊥
+opened-none (Closed n) h o = o
+opened-none (Open n) h o = false-true (sym h)
+
+-- equal ends, with a `<` on either
+module _ (lo hi : End) where
+  equal-some : cond (eqb (figure lo) (figure hi)) (opened lo || opened hi) false ≡ true → (figure lo ≡ figure hi) × (Opened lo ⊎ Opened hi)
+  equal-some h = go (eqb (figure lo) (figure hi)) refl h
+    where
+      go : (b : Bool) → eqb (figure lo) (figure hi) ≡ b → cond b (opened lo || opened hi) false ≡ true → (figure lo ≡ figure hi) × (Opened lo ⊎ Opened hi)
+      go true e h = (eqb-true _ _ e, ⊎-elim (λ o. inl (opened-some lo o)) (λ o. inr (opened-some hi o)) (or-some _ _ h))
+      go false e h = absurd (false-true h)
+
+  equal-none : cond (eqb (figure lo) (figure hi)) (opened lo || opened hi) false ≡ false → figure lo ≡ figure hi → Opened lo ⊎ Opened hi → ⊥
+  equal-none h e o =
+      let p = or-none _ _ (rw (eq-eqb _ _ e) at h) in
+      ⊎-elim (λ a. opened-none lo (p .0) a) (λ a. opened-none hi (p .1) a) o
+
+wrong-upper-some : (lo : End) (hi : Upper) → wrongUpper lo hi ≡ true → WrongUpper lo hi
+wrong-upper-some lo Endless e = absurd (false-true e)
+wrong-upper-some lo (UpTo hi) e =
+    ⊎-elim (λ a. inl (ltb-true _ _ a)) (λ b. inr (⊎-elim (λ a. inl (ltb-true _ _ a)) (λ a. inr (equal-some lo hi a)) (or-some _ _ b))) (or-some _ _ e)
+
+wrong-upper-none : (lo : End) (hi : Upper) → wrongUpper lo hi ≡ false → WrongUpper lo hi → ⊥
 wrong-upper-none lo Endless e w = w
 wrong-upper-none lo (UpTo hi) e w =
     let p = or-none _ _ e in
-    ⊎-elim (λ a. omega (arith, ltb-false 1000000 hi (p .0))) (λ a. omega (arith, ltb-false hi lo (p .1))) w
+    let q = or-none _ _ (p .1) in
+    ⊎-elim (λ a. omega (arith, ltb-false 1000000 (figure hi) (p .0)))
+    (λ v. ⊎-elim (λ a. omega (arith, ltb-false (figure hi) (figure lo) (q .0))) (λ a. equal-none lo hi (q .1) (a .0) (a .1)) v)
+    w
 
 wrong-range-some : (r : Range) → wrongRange r ≡ true → Wrong r
 wrong-range-some r e = ⊎-elim (λ a. inl (ltb-true _ _ a)) (λ a. inr (wrong-upper-some (r .lo) (r .hi) a)) (or-some _ _ e)
 
 wrong-range-none : (r : Range) → wrongRange r ≡ false → Wrong r → ⊥
 wrong-range-none r e w =
-    let p = or-none (ltb 1000000 (r .lo)) (wrongUpper (r .lo) (r .hi)) e in
-    ⊎-elim (λ a. omega (arith, ltb-false 1000000 (r .lo) (p .0))) (λ a. wrong-upper-none (r .lo) (r .hi) (p .1) a) w
+    let p = or-none (ltb 1000000 (figure (r .lo))) (wrongUpper (r .lo) (r .hi)) e in
+    ⊎-elim (λ a. omega (arith, ltb-false 1000000 (figure (r .lo)) (p .0))) (λ a. wrong-upper-none (r .lo) (r .hi) (p .1) a) w
+
+-- what is answered exactly of wrong ranges is the test
+pub wrong-is : (r : Range) (b : Bool) → (b ≡ true) ↔ Wrong r → b ≡ wrongRange r
+wrong-is r b h = go b (wrongRange r) h refl
+  where
+    go : (b t : Bool) → (b ≡ true) ↔ Wrong r → wrongRange r ≡ t → b ≡ t
+    go true true h e = refl
+    go true false h e = absurd (wrong-range-none r e (h .0 refl))
+    go false true h e = h .1 (wrong-range-some r e)
+    go false false h e = refl
 
 -- some range of the list is wrong
 abbrev Some : List Range → Type 0
@@ -127,28 +165,41 @@ cap-over n = go (ltb 1000000 n) refl
     go true e = let h : 1000000 < min n 1000001 = omega (arith, ltb-true 1000000 n e) in lt-ltb _ _ h ∙ sym e
     go false e = let h : min n 1000001 ≤ 1000000 = omega (arith, ltb-false 1000000 n e) in le-ltb _ _ h ∙ sym e
 
--- capped or not, a range is wrong or not
+figure-capped : (e : End) → figure (cappedEnd e) ≡ cap (figure e)
+figure-capped (Closed n) = refl
+figure-capped (Open n) = refl
+
+opened-capped : (e : End) → opened (cappedEnd e) ≡ opened e
+opened-capped (Closed n) = refl
+opened-capped (Open n) = refl
+
+-- Capped or not, a range is wrong or not: two numbers that the cap makes equal are both too large.
 capped-wrong : (r : Range) → wrongRange (cappedRange r) ≡ wrongRange r
 capped-wrong r = go (r .lo) (r .hi)
   where
-    go : (lo : ℕ) (hi : Upper) → (ltb 1000000 (cap lo) || wrongUpper (cap lo) (cappedUpper hi)) ≡ (ltb 1000000 lo || wrongUpper lo hi)
-    go lo Endless = rw cap-over
-    go lo (UpTo hi) = by (ltb 1000000 lo) (ltb 1000000 hi) refl refl
+    go : (lo : End) (hi : Upper) → (ltb 1000000 (figure (cappedEnd lo)) || wrongUpper (cappedEnd lo) (cappedUpper hi)) ≡ (ltb 1000000 (figure lo) || wrongUpper lo hi)
+    go lo Endless = rw (figure-capped lo, cap-over)
+    go lo (UpTo hi) = rw (figure-capped lo, figure-capped hi, opened-capped lo, opened-capped hi) (by (figure lo) (figure hi) (ltb 1000000 (figure lo)) (ltb 1000000 (figure hi)) refl refl)
       where
-        by : (a b : Bool) → ltb 1000000 lo ≡ a → ltb 1000000 hi ≡ b
-            → (ltb 1000000 (cap lo) || (ltb 1000000 (cap hi) || ltb (cap hi) (cap lo))) ≡ (ltb 1000000 lo || (ltb 1000000 hi || ltb hi lo))
-        by true b p q = rw (cap-over lo, p)
-        by false true p q = rw (cap-over lo, cap-over hi, p, q)
-        by false false p q = rw (cap-over lo, cap-over hi, p, q, cap-same lo p, cap-same hi q)
+        by : (m n : ℕ) (a b : Bool) → ltb 1000000 m ≡ a → ltb 1000000 n ≡ b
+            → (ltb 1000000 (cap m) || (ltb 1000000 (cap n) || (ltb (cap n) (cap m) || cond (eqb (cap m) (cap n)) (opened lo || opened hi) false)))
+            ≡ (ltb 1000000 m || (ltb 1000000 n || (ltb n m || cond (eqb m n) (opened lo || opened hi) false)))
+        by m n true b p q = rw (cap-over m, p)
+        by m n false true p q = rw (cap-over m, cap-over n, p, q)
+        by m n false false p q = rw (cap-over m, cap-over n, p, q, cap-same m p, cap-same n q)
 
 -- and so is an operator
 pub capped-wrong-unary : (u : Unary) → wrongUnary (cappedUnary u) ≡ wrongUnary u
 capped-wrong-unary Star = refl
 capped-wrong-unary (Band r) = capped-wrong r
 
-capped-upper : (lo : ℕ) (hi : Upper) → wrongUpper lo hi ≡ false → cappedUpper hi ≡ hi
+capped-end : (e : End) → ltb 1000000 (figure e) ≡ false → cappedEnd e ≡ e
+capped-end (Closed n) h = ap Closed (cap-same n h)
+capped-end (Open n) h = ap Open (cap-same n h)
+
+capped-upper : (lo : End) (hi : Upper) → wrongUpper lo hi ≡ false → cappedUpper hi ≡ hi
 capped-upper lo Endless e = refl
-capped-upper lo (UpTo hi) e = ap UpTo (cap-same hi (or-none _ _ e .0))
+capped-upper lo (UpTo hi) e = ap UpTo (capped-end hi (or-none _ _ e .0))
 
 -- what is stored of an expression without a wrong range is the expression itself
 pub capped-same : (e : Expression) → wrong e ≡ false → capped e ≡ e
@@ -159,5 +210,5 @@ capped-same (join j e f) h = let a = or-none _ _ h in rw (capped-same e (a .0), 
 capped-same (unary Star e) h = rw (capped-same e h)
 capped-same (unary (Band r) e) h =
     let a = or-none (wrongRange r) (wrong e) h in
-    let b = or-none (ltb 1000000 (r .lo)) (wrongUpper (r .lo) (r .hi)) (a .0) in
-    rw (capped-same e (a .1), cap-same (r .lo) (b .0), capped-upper (r .lo) (r .hi) (b .1))
+    let b = or-none (ltb 1000000 (figure (r .lo))) (wrongUpper (r .lo) (r .hi)) (a .0) in
+    rw (capped-same e (a .1), capped-end (r .lo) (b .0), capped-upper (r .lo) (r .hi) (b .1))

@@ -6,15 +6,16 @@ use Prim.Native.Nat.{ℕ}
 use Prim.Native.String.{String, [] as []ₛ, _∷_ as _∷ₛ_}
 use Prim.Native.Char.{code}
 use Rattle.expression.specs.declared.Range.{Range}
+use Rattle.expression.specs.declared.End.the-variants.{Closed, Open}
 use Rattle.expression.specs.declared.Upper.the-variants.{Endless, UpTo}
 use Rattle.expression.specs.declared.Sign.the-variants.{High, Low}
 use Rattle.expression.specs.declared.Join.the-variants.{Union, Intersection, Concatenation}
 use Rattle.expression.specs.declared.Unary.the-variants.{Star, Band}
 use Rattle.expression.specs.Expression.{Expression, epsilon, literal, join, unary}
 use Rattle.expression.specs.Grammar.{Form, alternative}
-use Rattle.tokens.specs.Tokens.{Got, no, yes, branch, bind, starts, rest, expect, ranged, digits, number, upper, limits}
+use Rattle.tokens.specs.Tokens.{Got, no, yes, branch, bind, starts, rest, expect, ranged, digits, number, numbered, bound, upper, limits}
 use Rattle.parser.specs.Descent.{postfixes, joining, read, height, descent}
-use Rattle.tokens.proofs.Text.{false-true}
+use Rattle.expression.proofs.Ranges.{false-true}
 use Rattle.parser.proofs.Complete.{whole-sound, whole-complete}
 
 abbrev bytes : String → List ℕ
@@ -43,16 +44,22 @@ abbrev a : Expression
 a = literal High 0
 
 abbrev within : ℕ → ℕ → Range
-within lo hi = record { lo = lo; hi = UpTo hi }
+within lo hi = record { lo = Closed lo; hi = UpTo (Closed hi) }
 
 -- Stars and bands are applied left to right, joins group to the left and bind as the grammar says, brackets add nothing.
 pub drills : Is "_" epsilon × Is "p" (literal High 15) × Is "!p" (literal Low 15) × Is "a**" (unary Star (unary Star a)) × Is "a*{1,2}*" (unary Star (unary (Band (within 1 2)) (unary Star a)))
     × Is "a.b|c&d" (join Union (join Concatenation a (literal High 1)) (join Intersection (literal High 2) (literal High 3))) × Is "a.b.c" (join Concatenation (join Concatenation a (literal High 1)) (literal High 2))
     × Is "a|b|c" (join Union (join Union a (literal High 1)) (literal High 2)) × Is "a.(b.c)" (join Concatenation a (join Concatenation (literal High 1) (literal High 2)))
-    × Is "(a|!a)*" (unary Star (join Union a (literal Low 0))) × Is "a{0,}" (unary (Band (record { lo = 0; hi = Endless })) a) × Is "(a{2,2})*" (unary Star (unary (Band (within 2 2)) a))
+    × Is "(a|!a)*" (unary Star (join Union a (literal Low 0))) × Is "a{0,}" (unary (Band (record { lo = Closed 0; hi = Endless })) a) × Is "(a{2,2})*" (unary Star (unary (Band (within 2 2)) a))
     × Is "((a))" a × Is "a{10,205}" (unary (Band (within 10 205)) a)
-unfolding descent read height branch bind starts rest expect ranged digits number upper limits postfixes
+    × Is "a{<2,5}" (unary (Band (record { lo = Open 2; hi = UpTo (Closed 5) })) a) × Is "a{2,<5}" (unary (Band (record { lo = Closed 2; hi = UpTo (Open 5) })) a)
+    × Is "a{<2,<50}" (unary (Band (record { lo = Open 2; hi = UpTo (Open 50) })) a) × Is "a{<200,}" (unary (Band (record { lo = Open 200; hi = Endless })) a)
+unfolding descent read height branch bind starts rest expect ranged digits number numbered bound upper limits postfixes
 drills = (
+  whole-sound _ _ refl,
+  whole-sound _ _ refl,
+  whole-sound _ _ refl,
+  whole-sound _ _ refl,
   whole-sound _ _ refl,
   whole-sound _ _ refl,
   whole-sound _ _ refl,
@@ -69,10 +76,18 @@ drills = (
   whole-sound _ _ refl,
 )
 
--- A leading zero, a missing lo, comma, brace or operand, blanks, and letters beyond `p` are not of the form.
+-- A leading zero, a missing lo, comma, brace or operand, blanks, letters beyond `p`, and a `<` without a number behind it are not of the form.
 pub no-drills : None "a{01,2}" × None "a{,2}" × None "a{2}" × None "()" × None "a b" × None "q" × None "!_" × None "a." × None "|a" × None "a&" × None "a{1,2" × None "(a" × None "a)"
-unfolding descent read height branch bind starts rest expect ranged digits number upper limits postfixes leftover
+    × None "a{2,<}" × None "a{<,5}" × None "a{<02,5}" × None "a{<<2,5}" × None "a{2<,5}" × None "a{< 2,5}" × None "a{2,5<}"
+unfolding descent read height branch bind starts rest expect ranged digits number numbered bound upper limits postfixes leftover
 no-drills = (
+  none _ refl,
+  none _ refl,
+  none _ refl,
+  none _ refl,
+  none _ refl,
+  none _ refl,
+  none _ refl,
   none _ refl,
   none _ refl,
   none _ refl,

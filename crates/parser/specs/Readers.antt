@@ -3,9 +3,11 @@ use mathlib.Core.Path.{_≡_}
 use mathlib.Core.Bool.{Bool, true, false, cond, _||_}
 use mathlib.Core.List.{List}
 use Prim.Native.Nat.{ℕ, suc, _+_, _*_, _<_, _≤_, max}
-use lib.Dec.{ltb}
+use lib.Dec.{eqb, ltb}
 use lib.ListN.{length, drop}
 use Rattle.expression.specs.declared.Range.{Range}
+use Rattle.expression.specs.declared.End.{End}
+use Rattle.expression.specs.declared.End.the-variants.{Closed, Open}
 use Rattle.expression.specs.declared.Upper.{Upper}
 use Rattle.expression.specs.declared.Upper.the-variants.{Endless, UpTo}
 use Rattle.parser.specs.declared.Parsed.{Parsed}
@@ -16,6 +18,7 @@ use Rattle.parser.specs.declared.Read.the-variants.{Part, Stop}
 use Rattle.expression.specs.declared.Unary.{Unary}
 use Rattle.expression.specs.declared.Unary.the-variants.{Star, Band}
 use Rattle.expression.specs.Expression.{Expression, epsilon, literal, join, unary, depth}
+use Rattle.expression.specs.Refusal.{figure}
 use Rattle.expression.specs.Stored.{Stored, FrontKept}
 use Rattle.tokens.specs.Tokens.{Got, no, yes, starts, cappedUnary}
 use Rattle.parser.specs.Descent.{Rank, descent}
@@ -34,13 +37,17 @@ width (literal s k) = suc k
 width (join j e f) = max (width e) (width f)
 width (unary u e) = width e
 
--- cause 7 as a test (`Wrong` of expression/specs/Refusal): some bound is above 1,000,000, or lo is above hi
-abbrev pub wrongUpper : ℕ → Upper → Bool
+-- cause 7 as a test (`Wrong` of expression/specs/Refusal): some bound is above 1,000,000, or lo is above hi, or equal to it with a `<` on either
+abbrev pub opened : End → Bool
+opened (Closed n) = false
+opened (Open n) = true
+
+abbrev pub wrongUpper : End → Upper → Bool
 wrongUpper lo Endless = false
-wrongUpper lo (UpTo hi) = ltb 1000000 hi || ltb hi lo
+wrongUpper lo (UpTo hi) = ltb 1000000 (figure hi) || (ltb (figure hi) (figure lo) || cond (eqb (figure lo) (figure hi)) (opened lo || opened hi) false)
 
 abbrev pub wrongRange : Range → Bool
-wrongRange r = ltb 1000000 (r .lo) || wrongUpper (r .lo) (r .hi)
+wrongRange r = ltb 1000000 (figure (r .lo)) || wrongUpper (r .lo) (r .hi)
 
 abbrev pub wrongUnary : Unary → Bool
 wrongUnary Star = false

@@ -6,9 +6,7 @@
 // text is read in `tokens`.
 use expression::Join;
 use expression::Node;
-use expression::Range;
 use expression::Unary;
-use expression::Upper;
 use tokens::Lettered;
 use tokens::Postfix;
 ghost use mathlib.Core.Path.{_≡_};
@@ -19,7 +17,7 @@ ghost use Rattle.expression.specs.declared.Join.the-variants.{Union, Intersecti
 ghost use Rattle.expression.specs.Stored.{Placed};
 ghost use Rattle.parser.specs.Parsing.{ParsedAs};
 ghost use Rattle.parser.specs.Descent.{symbol as symbolOf, joining, repeating, single, below};
-ghost use Rattle.parser.specs.Readers.{wrongRange, wrongUnary, over, beside, around, nothing, ClosedAs, Ready, ReadAs, verdict};
+ghost use Rattle.parser.specs.Readers.{wrongUnary, over, beside, around, nothing, ClosedAs, Ready, ReadAs, verdict};
 
 // The root of the tree, or the refusal.
 pub enum Parsed {
@@ -39,7 +37,7 @@ struct Tree {
     depth: u32,
     // One more than the highest letter.
     width: u32,
-    // Some range has a bound above 1,000,000, or its bounds in the wrong order.
+    // Check 7 refuses some range.
     wrong: bool,
 }
 
@@ -92,28 +90,13 @@ fn pair(left: Tree, right: Tree) -> Tree
     }
 }
 
-// A bound is above 1,000,000, or lo is above hi.
-fn wrong_range(range: Range) -> bool
-    ensures { λ r. ⌜ r ≡ wrongRange range ⌝ }
-{
-    let lo = range.lo;
-    let hi = range.hi;
-    if 1000000 < lo {
-        return true;
-    }
-    match hi {
-        Upper::Endless => false,
-        Upper::UpTo(n) => either(1000000 < n, n < lo),
-    }
-}
-
 // The range of a band is wrong.
 fn wrong_operator(op: Unary) -> bool
     ensures { λ r. ⌜ r ≡ wrongUnary op ⌝ }
 {
     match op {
         Unary::Star => false,
-        Unary::Band(range) => wrong_range(range),
+        Unary::Band(range) => expression::is_wrong(range),
     }
 }
 

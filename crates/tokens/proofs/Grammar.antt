@@ -8,10 +8,12 @@ use native.Mathlib.Omega.{arith}
 use lib.Dec.{ltb}
 use borrow.Author.Tests.{ltb-true, ltb-false, lt-ltb, le-ltb, ne-eqb}
 use Rattle.expression.specs.declared.Range.{Range}
+use Rattle.expression.specs.declared.End.{End}
+use Rattle.expression.specs.declared.End.the-variants.{Closed, Open}
 use Rattle.expression.specs.declared.Upper.{Upper}
 use Rattle.expression.specs.declared.Upper.the-variants.{UpTo}
-use Rattle.expression.specs.Grammar.{Number, digit, digit-after, Limits, from, between}
-use Rattle.tokens.specs.Tokens.{yes, bind, rest, expect, ranged, digits, number, upper, limits, no, branch, starts}
+use Rattle.expression.specs.Grammar.{Number, digit, digit-after, Bound, reached, not-reached, Limits, from, between}
+use Rattle.tokens.specs.Tokens.{yes, bind, rest, expect, ranged, digits, number, numbered, bound, upper, limits, no, branch, starts}
 use Rattle.tokens.proofs.Text.{no-yes, yes-text, yes-value, bind-yes, branch-split, starts-is}
 
 pub expect-sound : {A : Type 0} (c : ℕ) (x : A) (s : List ℕ) (y : A) (r : List ℕ) → expect c x s ≡ yes y r → (x ≡ y) × (s ≡ c ∷ r)
@@ -67,23 +69,40 @@ number-sound s m r e =
     let k = digits-sound (b .0) (b .1) ((48 + b .0) ∷ []) m r (b .3) (digit (h .0)) in
     ((48 + b .0) ∷ k .0, h .1 ∙ ap (λ (x : List ℕ). (48 + b .0) ∷ x) (k .1), k .2)
 
-upper-sound : (s w : List ℕ) (n : ℕ) (x : Upper) (r : List ℕ) → upper s ≡ yes x r → Number w n
-    → (u : List ℕ) × ((44 ∷ s) ≡ u ++ (125 ∷ r)) × Limits (w ++ u) (record { lo = n; hi = x })
+numbered-sound : (kind : ℕ → End) (s : List ℕ) (x : End) (r : List ℕ) → numbered kind s ≡ yes x r → (u : List ℕ) × (s ≡ u ++ r) × (n : ℕ) × Number u n × (kind n ≡ x)
+unfolding numbered
+numbered-sound kind s x r e =
+    let b = bind-yes _ _ e in
+    let h = number-sound s (b .0) (b .1) (b .2) in
+    (h .0, h .1 ∙ ap (λ (y : List ℕ). h .0 ++ y) (yes-text (b .3)), b .0, h .2, yes-value (b .3))
+
+bound-sound : (s : List ℕ) (x : End) (r : List ℕ) → bound s ≡ yes x r → (u : List ℕ) × (s ≡ u ++ r) × Bound u x
+unfolding bound
+bound-sound s x r e =
+    ⊎-elim
+    (λ p.
+    let h = numbered-sound Open (rest s) x r (p .1) in
+    (60 ∷ h .0, starts-is 60 s (p .0) ∙ ap (λ (y : List ℕ). 60 ∷ y) (h .1), subst (Bound (60 ∷ h .0)) (h .4) (not-reached (h .3))))
+    (λ p. let h = numbered-sound Closed s x r (p .1) in (h .0, h .1, subst (Bound (h .0)) (h .4) (reached (h .3))))
+    (branch-split _ _ _ e)
+
+upper-sound : (s w : List ℕ) (lo : End) (x : Upper) (r : List ℕ) → upper s ≡ yes x r → Bound w lo
+    → (u : List ℕ) × ((44 ∷ s) ≡ u ++ (125 ∷ r)) × Limits (w ++ u) (record { lo = lo; hi = x })
 unfolding upper
-upper-sound s w n x r e f =
+upper-sound s w lo x r e f =
     ⊎-elim
     (λ p. (
       44 ∷ [],
       ap (λ (y : List ℕ). 44 ∷ y) (starts-is 125 s (p .0) ∙ ap (λ (y : List ℕ). 125 ∷ y) (yes-text (p .1))),
-      subst (λ (y : Upper). Limits (w ++ (44 ∷ [])) (record { lo = n; hi = y })) (yes-value (p .1)) (from f),
+      subst (λ (y : Upper). Limits (w ++ (44 ∷ [])) (record { lo = lo; hi = y })) (yes-value (p .1)) (from f),
     ))
     (λ p.
     let b = bind-yes _ _ (p .1) in
-    let h = number-sound s (b .0) (b .1) (b .2) in
+    let h = bound-sound s (b .0) (b .1) (b .2) in
     let k = expect-sound 125 (UpTo (b .0)) (b .1) x r (b .3) in (
       44 ∷ h .0,
       ap (λ (y : List ℕ). 44 ∷ y) (h .1 ∙ ap (λ (y : List ℕ). h .0 ++ y) (k .1)),
-      subst (λ (y : Upper). Limits (w ++ (44 ∷ h .0)) (record { lo = n; hi = y })) (k .0) (between f (h .2)),
+      subst (λ (y : Upper). Limits (w ++ (44 ∷ h .0)) (record { lo = lo; hi = y })) (k .0) (between f (h .2)),
     ))
     (branch-split _ _ _ e)
 
@@ -93,10 +112,10 @@ limits-sound s x r e =
     let b = bind-yes _ _ e in
     let c = bind-yes _ _ (b .3) in
     let d = bind-yes _ _ (c .3) in
-    let h = number-sound s (b .0) (b .1) (b .2) in
+    let h = bound-sound s (b .0) (b .1) (b .2) in
     let k = expect-sound 44 (b .0) (b .1) (c .0) (c .1) (c .2) in
     let m = upper-sound (c .1) (h .0) (b .0) (d .0) (d .1) (d .2) (h .2) in
-    let v : _≡_ {A = Range} (record { lo = b .0; hi = d .0 }) x = ap (λ (n : ℕ). record { lo = n; hi = d .0 }) (k .0) ∙ yes-value (d .3) in (
+    let v : _≡_ {A = Range} (record { lo = b .0; hi = d .0 }) x = ap (λ (lo : End). record { lo = lo; hi = d .0 }) (k .0) ∙ yes-value (d .3) in (
       h .0 ++ m .0,
       h .1 ∙ ap (λ (y : List ℕ). h .0 ++ y) (k .1 ∙ m .1 ∙ ap (λ (y : List ℕ). m .0 ++ (125 ∷ y)) (yes-text (d .3))) ∙ sym (append-assoc (h .0) (m .0) (125 ∷ r)),
       subst (λ (y : Range). Limits (h .0 ++ m .0) y) v (m .2),
@@ -139,20 +158,37 @@ number-head (digit-after {d = d} f h k) =
     let g = number-head f in
     (g .0, g .1 ++ ((48 + d) ∷ []), ap (λ (x : List ℕ). x ++ ((48 + d) ∷ [])) (g .2), g .3)
 
-upper-complete : {u : List ℕ} {n : ℕ} → Number u n → (r : List ℕ) → upper (u ++ (125 ∷ r)) ≡ yes (UpTo n) r
-unfolding upper branch bind expect starts rest ranged
-upper-complete {u} {n} f r =
+numbered-complete : (kind : ℕ → End) {u : List ℕ} {n : ℕ} → Number u n → (r : List ℕ) → ranged 48 10 r ≡ no → numbered kind (u ++ r) ≡ yes (kind n) r
+unfolding numbered bind
+numbered-complete kind {n = n} f r e = rw (number-complete f r ∙ digits-off n r e)
+
+bound-complete : {u : List ℕ} {x : End} → Bound u x → (r : List ℕ) → ranged 48 10 r ≡ no → bound (u ++ r) ≡ yes x r
+unfolding bound branch starts rest
+bound-complete (reached f) = λ r e.
     let g = number-head f in
+    let d : g .0 ≡ 60 → ⊥ = omega (arith, g .3) in
+    rw (g .2) (rw (ne-eqb _ _ d) (rw (g .2) at (numbered-complete Closed f r e)))
+bound-complete (not-reached f) = λ r e. numbered-complete Open f r e
+
+-- an end begins with no closing brace
+bound-head : {u : List ℕ} {x : End} → Bound u x → (c : ℕ) × (v : List ℕ) × (u ≡ c ∷ v) × (c < 61)
+bound-head (reached f) = let g = number-head f in (g .0, g .1, g .2, omega (arith, g .3))
+bound-head (not-reached {s = s} f) = (60, s, refl, omega arith)
+
+upper-complete : {u : List ℕ} {x : End} → Bound u x → (r : List ℕ) → upper (u ++ (125 ∷ r)) ≡ yes (UpTo x) r
+unfolding upper branch bind expect starts rest ranged
+upper-complete {u} {x} f r =
+    let g = bound-head f in
     let d : g .0 ≡ 125 → ⊥ = omega (arith, g .3) in
-    let e : number (g .0 ∷ (g .1 ++ (125 ∷ r))) ≡ yes n (125 ∷ r) = rw (g .2) at (number-complete f (125 ∷ r) ∙ digits-off n (125 ∷ r) refl) in
+    let e : bound (g .0 ∷ (g .1 ++ (125 ∷ r))) ≡ yes x (125 ∷ r) = rw (g .2) at (bound-complete f (125 ∷ r) refl) in
     rw (g .2) (rw (ne-eqb _ _ d, e))
 
 pub limits-complete : {u : List ℕ} {x : Range} → Limits u x → (r : List ℕ) → limits (u ++ (125 ∷ r)) ≡ yes x r
 unfolding limits bind expect branch upper starts rest ranged
 limits-complete (from {s = s} {lo = lo} f) = λ r.
-    let e : number (s ++ (44 ∷ 125 ∷ r)) ≡ yes lo (44 ∷ 125 ∷ r) = number-complete f (44 ∷ 125 ∷ r) ∙ digits-off lo (44 ∷ 125 ∷ r) refl in
+    let e : bound (s ++ (44 ∷ 125 ∷ r)) ≡ yes lo (44 ∷ 125 ∷ r) = bound-complete f (44 ∷ 125 ∷ r) refl in
     rw (append-assoc, e)
 limits-complete (between {s = s} {u = u} {lo = lo} {hi = hi} f g) = λ r.
-    let e : number (s ++ (44 ∷ (u ++ (125 ∷ r)))) ≡ yes lo (44 ∷ (u ++ (125 ∷ r))) = number-complete f _ ∙ digits-off lo (44 ∷ (u ++ (125 ∷ r))) refl in
+    let e : bound (s ++ (44 ∷ (u ++ (125 ∷ r)))) ≡ yes lo (44 ∷ (u ++ (125 ∷ r))) = bound-complete f (44 ∷ (u ++ (125 ∷ r))) refl in
     let k = upper-complete g r in
     rw (append-assoc, e) (rw k)

@@ -1,13 +1,15 @@
 -- Numbers and ranges, read from a place of the text.
-use mathlib.Core.Path.{_≡_, refl, ap, _∙_}
+use mathlib.Core.Path.{_≡_, refl, sym, ap, _∙_}
 use mathlib.Core.Bool.{true, false}
 use mathlib.Core.List.{List, [], _∷_}
 use Prim.Native.Nat.{ℕ, _+_, _*_, _<_, _≤_}
 use native.Mathlib.Omega.{arith}
 use lib.ListN.{length, drop}
 use Rattle.expression.specs.declared.Upper.{Upper}
+use Rattle.expression.specs.declared.End.{End}
+use Rattle.expression.specs.declared.End.the-variants.{Closed, Open}
 use Rattle.expression.specs.declared.Upper.the-variants.{Endless, UpTo}
-use Rattle.tokens.specs.Tokens.{no, yes, branch, bind, starts, expect, ranged, digits, number, upper, limits, cap, cappedUpper, cappedRange, Got-at}
+use Rattle.tokens.specs.Tokens.{no, yes, branch, bind, starts, expect, ranged, digits, number, numbered, bound, upper, limits, cap, cappedEnd, cappedUpper, cappedRange, Got-at}
 use Rattle.tokens.specs.Readers.{Offset-at}
 use Rattle.tokens.proofs.Text.{rest-drop}
 use Rattle.tokens.proofs.Grammar.{ranged-sound, digits-on, digits-off}
@@ -82,6 +84,45 @@ counts-on {text} {pos = pos} {v = v} {d = d} s h o e =
       read = s .read ∙ ap (digits (s .size)) (ranged-sound 48 10 (drop pos text) d (drop (pos + 1) text) (o .read) .1) ∙ digits-on (s .size) d (drop (pos + 1) text) p (o .small);
     }
 
+-- ENDS
+
+-- a number as an end of either kind
+module _ (kind : ℕ → End) (capped-kind : (n : ℕ) → cappedEnd (kind n) ≡ kind (cap n)) (text : List ℕ) (at : ℕ) where
+  numbered-none : number (drop at text) ≡ no → numbered kind (drop at text) ≡ no
+  unfolding numbered bind
+  numbered-none e = rw e
+
+  numbered-is : {a v : ℕ} → Got-at number cap text at a v → Got-at (numbered kind) cappedEnd text at a (kind v)
+  unfolding numbered bind
+  numbered-is n =
+      record { ahead = n .ahead; inside = n .inside; x = kind (n .x); is = ap kind (n .is) ∙ sym (capped-kind (n .x)); read = rw (n .read) }
+
+-- no `<` stands before it
+module _ (text : List ℕ) (at : ℕ) (plain : starts 60 (drop at text) ≡ false) where
+  bound-plain : bound (drop at text) ≡ numbered Closed (drop at text)
+  unfolding bound branch
+  bound-plain = rw plain
+
+  pub closed-none : number (drop at text) ≡ no → bound (drop at text) ≡ no
+  closed-none e = bound-plain ∙ numbered-none Closed (λ n. refl) text at e
+
+  pub closed-is : {a v : ℕ} → Got-at number cap text at a v → Got-at bound cappedEnd text at a (Closed v)
+  closed-is n = let m = numbered-is Closed (λ n. refl) text at n in record { ahead = m .ahead; inside = m .inside; x = m .x; is = m .is; read = bound-plain ∙ m .read }
+
+-- one does
+module _ (text : List ℕ) (at : ℕ) (sign : starts 60 (drop at text) ≡ true) (inside : at < length text) where
+  bound-sign : bound (drop at text) ≡ numbered Open (drop (at + 1) text)
+  unfolding bound branch
+  bound-sign = rw (sign, rest-drop text at inside)
+
+  pub open-none : number (drop (at + 1) text) ≡ no → bound (drop at text) ≡ no
+  open-none e = bound-sign ∙ numbered-none Open (λ n. refl) text (at + 1) e
+
+  pub open-is : {a v : ℕ} → Got-at number cap text (at + 1) a v → Got-at bound cappedEnd text at a (Open v)
+  open-is n =
+      let m = numbered-is Open (λ n. refl) text (at + 1) n in
+      record { ahead = omega (arith, m .ahead); inside = m .inside; x = m .x; is = m .is; read = bound-sign ∙ m .read }
+
 -- RANGES
 
 -- the closing brace stands where hi may
@@ -91,16 +132,16 @@ upper-endless {text} {at} e h = record { ahead = omega arith; inside = omega ari
 
 -- it does not
 module _ (text : List ℕ) (at : ℕ) (more : starts 125 (drop at text) ≡ false) where
-  upper-is : upper (drop at text) ≡ bind (number (drop at text)) (λ m r. expect 125 (UpTo m) r)
+  upper-is : upper (drop at text) ≡ bind (bound (drop at text)) (λ e r. expect 125 (UpTo e) r)
   unfolding upper branch
   upper-is = rw more
 
-  pub upper-none : number (drop at text) ≡ no → upper (drop at text) ≡ no
+  pub upper-none : bound (drop at text) ≡ no → upper (drop at text) ≡ no
   unfolding bind
   upper-none e = upper-is ∙ rw e
 
   -- hi ends at b
-  module _ {b w : ℕ} (m : Got-at number cap text at b w) where
+  module _ {b : ℕ} {w : End} (m : Got-at bound cappedEnd text at b w) where
     pub upper-unclosed : starts 125 (drop b text) ≡ false → upper (drop at text) ≡ no
     unfolding bind expect branch
     upper-unclosed e = upper-is ∙ rw (m .read) (rw e)
@@ -116,12 +157,12 @@ module _ (text : List ℕ) (at : ℕ) (more : starts 125 (drop at text) ≡ fals
           read = upper-is ∙ rw (m .read) (rw (e, rest-drop text b h));
         }
 
-pub range-none : (s : List ℕ) → number s ≡ no → limits s ≡ no
+pub range-none : (s : List ℕ) → bound s ≡ no → limits s ≡ no
 unfolding limits bind
 range-none s e = rw e
 
 -- lo ends at a
-module _ {text : List ℕ} {at a v : ℕ} (n : Got-at number cap text at a v) where
+module _ {text : List ℕ} {at a : ℕ} {v : End} (n : Got-at bound cappedEnd text at a v) where
   pub range-stops : starts 44 (drop a text) ≡ false → limits (drop at text) ≡ no
   unfolding limits bind expect branch
   range-stops e = rw (n .read) (rw e)

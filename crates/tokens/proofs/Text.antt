@@ -10,11 +10,9 @@ use lib.Dec.{eqb}
 use lib.ListN.{length, getD, drop, drop-of-length-le}
 use lib.Seq.{drop-cons}
 use borrow.Author.Tests.{eqb-true, lt-ltb, le-ltb}
+use Rattle.expression.proofs.Ranges.{false-true}
 use Rattle.tokens.specs.Tokens.{Got, no, yes, branch, bind, starts, rest, ranged, Seen}
 use Rattle.tokens.specs.Readers.{Offset-at}
-
-pub false-true : false ≡ true → ⊥
-false-true e = let z : _≡_ {A = ℕ} 0 1 = cc in omega arith
 
 pub no-yes : {A : Type 0} {x : A} {r : List ℕ} → no ≡ yes x r → ⊥
 no-yes e = let z : _≡_ {A = ℕ} 0 1 = cc in omega arith

@@ -5,18 +5,24 @@ use Prim.Native.Nat.{ℕ, _+_, _<_}
 use lib.ListN.{length, drop}
 use Rattle.tokens.specs.declared.Digits.{Digits}
 use Rattle.tokens.specs.declared.Digits.the-variants.{Value, NoNumber}
+use Rattle.tokens.specs.declared.Bounded.{Bounded}
+use Rattle.tokens.specs.declared.Bounded.the-variants.{Bound, NoBound}
 use Rattle.tokens.specs.declared.Closing.{Closing}
 use Rattle.tokens.specs.declared.Closing.the-variants.{Hi, NoHi}
 use Rattle.tokens.specs.declared.Braces.{Braces}
 use Rattle.tokens.specs.declared.Braces.the-variants.{Limits, NoRange}
 use Rattle.tokens.specs.declared.Offset.{Offset}
 use Rattle.tokens.specs.declared.Offset.the-variants.{By, Outside}
-use Rattle.tokens.specs.Tokens.{no, yes, ranged, number, upper, limits, cap, cappedUpper, cappedRange, Got-at}
+use Rattle.tokens.specs.Tokens.{no, yes, ranged, number, bound, upper, limits, cap, cappedEnd, cappedUpper, cappedRange, Got-at}
 
--- a number, an upper end, a range: where it ends and its value, or that there is none
+-- a number, an end, an upper end, a range: where it ends and its value, or that there is none
 abbrev pub NumberAs : List ℕ → ℕ → Digits → Type 0
 NumberAs text at (Value a v) = Got-at number cap text at a v
 NumberAs text at NoNumber = number (drop at text) ≡ no
+
+abbrev pub BoundAs : List ℕ → ℕ → Bounded → Type 0
+BoundAs text at (Bound a e) = Got-at bound cappedEnd text at a e
+BoundAs text at NoBound = bound (drop at text) ≡ no
 
 abbrev pub UpperAs : List ℕ → ℕ → Closing → Type 0
 UpperAs text at (Hi a u) = Got-at upper cappedUpper text at a u

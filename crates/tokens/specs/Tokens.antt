@@ -7,6 +7,8 @@ use Prim.Native.Nat.{ℕ, _+_, _-_, _*_, _<_, _≤_, min}
 use lib.Dec.{eqb, ltb}
 use lib.ListN.{length, drop}
 use Rattle.expression.specs.declared.Range.{Range}
+use Rattle.expression.specs.declared.End.{End}
+use Rattle.expression.specs.declared.End.the-variants.{Closed, Open}
 use Rattle.expression.specs.declared.Upper.{Upper}
 use Rattle.expression.specs.declared.Upper.the-variants.{Endless, UpTo}
 use Rattle.expression.specs.declared.Sign.the-variants.{High, Low}
@@ -62,13 +64,20 @@ digits n (c ∷ s) =
 unfoldable pub number : List ℕ → Got ℕ
 number s = bind (ranged 48 10 s) digits
 
+-- an end of a range: a number, or `<` and a number
+unfoldable pub numbered : (ℕ → End) → List ℕ → Got End
+numbered kind s = bind (number s) (λ n r. yes (kind n) r)
+
+unfoldable pub bound : List ℕ → Got End
+bound s = branch (starts 60 s) (λ _. numbered Open (rest s)) (λ _. numbered Closed s)
+
 -- the upper end of a range, with the closing brace
 unfoldable pub upper : List ℕ → Got Upper
-upper s = branch (starts 125 s) (λ _. yes Endless (rest s)) (λ _. bind (number s) (λ n r. expect 125 (UpTo n) r))
+upper s = branch (starts 125 s) (λ _. yes Endless (rest s)) (λ _. bind (bound s) (λ e r. expect 125 (UpTo e) r))
 
 -- what stands after an opening brace, with the closing one
 unfoldable pub limits : List ℕ → Got Range
-limits s = bind (number s) (λ n r. bind (expect 44 n r) (λ m q. bind (upper q) (λ u p. yes (record { lo = m; hi = u }) p)))
+limits s = bind (bound s) (λ e r. bind (expect 44 e r) (λ lo q. bind (upper q) (λ hi p. yes (record { lo = lo; hi = hi }) p)))
 
 -- an operator with one operand: `*`, or a range in braces
 abbrev pub postfix : List ℕ → Got Unary
@@ -84,13 +93,17 @@ lettered s =
 unfoldable pub cap : ℕ → ℕ
 cap n = min n 1000001
 
--- and so in an upper end, a range and an operator, as they are stored
+-- and so in an end, an upper end, a range and an operator, as they are stored
+abbrev pub cappedEnd : End → End
+cappedEnd (Closed n) = Closed (cap n)
+cappedEnd (Open n) = Open (cap n)
+
 abbrev pub cappedUpper : Upper → Upper
 cappedUpper Endless = Endless
-cappedUpper (UpTo n) = UpTo (cap n)
+cappedUpper (UpTo e) = UpTo (cappedEnd e)
 
 abbrev pub cappedRange : Range → Range
-cappedRange r = record { lo = cap (r .lo); hi = cappedUpper (r .hi) }
+cappedRange r = record { lo = cappedEnd (r .lo); hi = cappedUpper (r .hi) }
 
 abbrev pub cappedUnary : Unary → Unary
 cappedUnary Star = Star

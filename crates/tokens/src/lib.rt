@@ -2,6 +2,7 @@
 // known here of the levels of the grammar, nor of trees.
 //
 // specs/Tokens.antt says what a text begins with, and what is kept of it.
+use expression::End;
 use expression::Range;
 use expression::Sign;
 use expression::Unary;
@@ -10,7 +11,7 @@ ghost use mathlib.Core.Path.{_≡_};
 ghost use Prim.Native.Nat.{_<_};
 ghost use lib.ListN.{length};
 ghost use Rattle.tokens.specs.Tokens.{cap, PostfixAs, LetterAs, Seen};
-ghost use Rattle.tokens.specs.Readers.{NumberAs, UpperAs, RangeAs, OffsetAs};
+ghost use Rattle.tokens.specs.Readers.{NumberAs, BoundAs, UpperAs, RangeAs, OffsetAs};
 
 // The place of a byte in a run of bytes.
 enum Offset {
@@ -22,6 +23,12 @@ enum Offset {
 enum Digits {
     Value(usize, u32),
     NoNumber,
+}
+
+// Where an end of a range was read up to, and which it is.
+enum Bounded {
+    Bound(usize, End),
+    NoBound,
 }
 
 // Where a range ends, and its upper end.
@@ -111,6 +118,23 @@ fn number_at(text: &[u8], at: usize) -> Digits
     Digits::Value(pos, value)
 }
 
+// An end of a range: a number, or `<` and a number.
+fn bound_at(text: &[u8], at: usize) -> Bounded
+    requires { ⌜ length (now text) < 256 ⌝ }
+    ensures { λ r. ⌜ BoundAs (now (text .entry)) at r ⌝ }
+{
+    if byte_is(text, at, b'<') {
+        let Digits::Value(after, n) = number_at(text, at + 1) else {
+            return Bounded::NoBound;
+        };
+        return Bounded::Bound(after, End::Open(n));
+    }
+    let Digits::Value(after, n) = number_at(text, at) else {
+        return Bounded::NoBound;
+    };
+    Bounded::Bound(after, End::Closed(n))
+}
+
 // What stands after the comma of a range, with the closing brace.
 fn upper_at(text: &[u8], at: usize) -> Closing
     requires { ⌜ length (now text) < 256 ⌝ }
@@ -119,7 +143,7 @@ fn upper_at(text: &[u8], at: usize) -> Closing
     if byte_is(text, at, b'}') {
         return Closing::Hi(at + 1, Upper::Endless);
     }
-    let Digits::Value(close, hi) = number_at(text, at) else {
+    let Bounded::Bound(close, hi) = bound_at(text, at) else {
         return Closing::NoHi;
     };
     if !byte_is(text, close, b'}') {
@@ -133,7 +157,7 @@ fn range_at(text: &[u8], at: usize) -> Braces
     requires { ⌜ length (now text) < 256 ⌝ }
     ensures { λ r. ⌜ RangeAs (now (text .entry)) at r ⌝ }
 {
-    let Digits::Value(comma, lo) = number_at(text, at) else {
+    let Bounded::Bound(comma, lo) = bound_at(text, at) else {
         return Braces::NoRange;
     };
     if !byte_is(text, comma, b',') {

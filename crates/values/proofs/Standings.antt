@@ -9,10 +9,10 @@ use mathlib.Core.Logic.{inl, inr}
 use Rattle.zone.specs.declared.Zone.{Zone}
 use Rattle.zone.specs.declared.MaybeZone.{MaybeZone}
 use Rattle.zone.specs.declared.MaybeZone.the-variants.{Zone as zone, Empty as empty}
-use Rattle.limit.specs.Limit.{most}
+use Rattle.limit.specs.Limit.{Small, most-ticks}
 use Rattle.zone.specs.Zone.{Proper, diagonal}
 use Rattle.zone.proofs.Laws.{proper-band}
-use Rattle.limit.proofs.Means.{most-same}
+use Rattle.limit.proofs.Means.{small-most, small-least}
 use Rattle.limit.proofs.Times.{≤-trans, tick-≤}
 use Rattle.list.specs.Insert.{capacity, Built, overflow}
 use Rattle.star.specs.Star.{finished, overflow, Star}
@@ -22,11 +22,14 @@ use Rattle.star.specs.Closing.{Closing}
 use Rattle.list.proofs.Copies.{brought}
 use Rattle.star.proofs.Theorems.{star-bound}
 use Rattle.expression.specs.declared.Range.{Range}
+use Rattle.expression.specs.declared.End.{End}
+use Rattle.expression.specs.declared.End.the-variants.{Closed, Open}
 use Rattle.expression.specs.declared.Upper.{Upper}
 use Rattle.expression.specs.declared.Upper.the-variants.{Endless, UpTo}
-use Rattle.expression.specs.Refusal.{Wrong}
-use Rattle.expression.proofs.Laws.{InOrder, right-range}
-use Rattle.meaning.specs.Lists.{value, overflow, ended, longest, shortest, rangeBand, Closes}
+use Rattle.expression.specs.Refusal.{figure, Wrong}
+use Rattle.expression.proofs.Laws.{right-range}
+use Rattle.meaning.specs.Satisfies.{upperLimit, lowerLimit}
+use Rattle.meaning.specs.Lists.{value, overflow, ended, longest, rangeBand, Closes}
 use Rattle.values.specs.Values.{Standing}
 
 -- ---- a list that was built
@@ -85,16 +88,28 @@ pub band-sound : (from to : ℕ) (r : Range) → to ≤ 1_000_000 → SoundBand 
 band-sound from to r h = go (rangeBand from to r) refl
   where
     go : (b : MaybeZone) → rangeBand from to r ≡ b → SoundBand b
-    go (zone z) e = sound-within h (proper-band from to (longest from to (r .hi)) (shortest (r .lo)) e)
+    go (zone z) e = sound-within h (proper-band from to (longest from to (r .hi)) (lowerLimit (r .lo)) e)
     go empty e = tt
 
--- both limits are small
-pub upper-small : {n : ℕ} (from to : ℕ) (r : Range) → most n ≡ longest from to (r .hi) → to ≤ 1_000_000 → (Wrong r → ⊥) → n ≤ 1_000_000
-upper-small {n} from to r e h w = go (r .hi) e (right-range (r .lo) (r .hi) w .1)
-  where
-    go : (u : Upper) → most n ≡ longest from to u → InOrder (r .lo) u → n ≤ 1_000_000
-    go Endless q o = let d : n ≡ to - from = most-same q in omega arith
-    go (UpTo hi) q o = let d : n ≡ hi = most-same q in omega arith
-
-pub lower-small : (r : Range) → (Wrong r → ⊥) → r .lo ≤ 1_000_000
+-- the ends of a right range are small
+pub lower-small : (r : Range) → (Wrong r → ⊥) → figure (r .lo) ≤ most-ticks
 lower-small r w = right-range (r .lo) (r .hi) w .0
+
+pub upper-small : (r : Range) (hi : End) → r .hi ≡ UpTo hi → (Wrong r → ⊥) → figure hi ≤ most-ticks
+upper-small r hi e w = (rw e at (right-range (r .lo) (r .hi) w .1)) .1
+
+-- and so are the limits that they set
+pub small-lower : (e : End) → figure e ≤ most-ticks → Small most-ticks (lowerLimit e)
+small-lower (Closed n) h = small-least h
+small-lower (Open n) h = small-least h
+
+small-upper : (e : End) → figure e ≤ most-ticks → Small most-ticks (upperLimit e)
+small-upper (Closed n) h = small-most h
+small-upper (Open n) h = small-most h
+
+pub small-longest : (from to : ℕ) (r : Range) → to ≤ most-ticks → (Wrong r → ⊥) → Small most-ticks (longest from to (r .hi))
+small-longest from to r h w = go (r .hi) refl
+  where
+    go : (u : Upper) → r .hi ≡ u → Small most-ticks (longest from to u)
+    go Endless e = small-most (omega arith)
+    go (UpTo hi) e = small-upper hi (upper-small r hi e w)

@@ -2,6 +2,7 @@
 // operator comes to from the values of its operands. A list is built in a free slot and brought to its place.
 //
 // specs/Values.antt says how a slot holds a value; the crate `meaning` which value it is.
+use expression::End;
 use expression::Join;
 use expression::Range;
 use expression::Unary;
@@ -14,13 +15,14 @@ use zone::MaybeZone;
 use zone::Zone;
 ghost use mathlib.Core.Path.{_≡_};
 ghost use Prim.Native.Nat.{_+_, _*_, _≤_};
-ghost use Rattle.limit.specs.Limit.{most};
+ghost use Rattle.limit.specs.Limit.{most-ticks};
 ghost use Rattle.list.specs.Slots.{slot-words, listAt, Kept, Source};
 ghost use Rattle.operators.specs.Operators.{banded};
 ghost use Rattle.pairs.specs.Operands.{Operands};
 ghost use Rattle.operators.specs.Listing.{BuiltAs};
-ghost use Rattle.expression.specs.Refusal.{Wrong};
+ghost use Rattle.expression.specs.Refusal.{figure, Wrong};
 ghost use Rattle.expression.specs.Planted.{Right};
+ghost use Rattle.meaning.specs.Satisfies.{upperLimit, lowerLimit};
 ghost use Rattle.meaning.specs.Lists.{ended, longest, rangeBand, Closes, joinList, applied};
 ghost use Rattle.values.specs.Values.{EvaluatedAs, Ticks, OperandAt, most-rounds, Came, Carried};
 
@@ -88,14 +90,36 @@ pub fn combine(
     }
 }
 
-// The upper end of a range; a missing one is the length of ticks from..to, which no stretch exceeds.
-fn upper_end(hi: Upper, from: u32, to: u32) -> u32
-    requires { ⌜ from ≤ to ⌝ }
-    ensures { λ r. ⌜ most r ≡ longest from to hi ⌝ }
+// The limit that an end sets as the hi of a range, and as the lo.
+fn upper_limit(end: End) -> Limit
+    requires { ⌜ figure end ≤ most-ticks ⌝ }
+    ensures { λ r. ⌜ r ≡ upperLimit end ⌝ }
 {
+    match end {
+        End::Closed(n) => Limit::most(n),
+        End::Open(n) => Limit::less(n),
+    }
+}
+
+fn lower_limit(end: End) -> Limit
+    requires { ⌜ figure end ≤ most-ticks ⌝ }
+    ensures { λ r. ⌜ r ≡ lowerLimit end ⌝ }
+{
+    match end {
+        End::Closed(n) => Limit::least(n),
+        End::Open(n) => Limit::more(n),
+    }
+}
+
+// The limit of a range on end − start; without a hi it is the length of ticks from..to, which no stretch exceeds.
+fn longest(range: Range, from: u32, to: u32) -> Limit
+    requires { ⌜ (Ticks from to) × (Wrong range → ⊥) ⌝ }
+    ensures { λ r. ⌜ r ≡ longest from to (range .hi) ⌝ }
+{
+    let hi = range.hi;
     match hi {
-        Upper::Endless => to - from,
-        Upper::UpTo(n) => n,
+        Upper::Endless => Limit::most(to - from),
+        Upper::UpTo(end) => upper_limit(end),
     }
 }
 
@@ -104,9 +128,8 @@ fn range_band(range: Range, from: u32, to: u32) -> MaybeZone
     requires { ⌜ (Ticks from to) × (Wrong range → ⊥) ⌝ }
     ensures { λ r. ⌜ r ≡ rangeBand from to range ⌝ }
 {
-    let hi = range.hi;
-    let longest = Limit::most(upper_end(hi, from, to));
-    Zone::band(from, to, longest, Limit::least(range.lo))
+    let lo = range.lo;
+    Zone::band(from, to, longest(range, from, to), lower_limit(lo))
 }
 
 // `{lo,hi}`: the meets of the list in the slot at `base` with the band, brought to `base`.

@@ -1,4 +1,5 @@
 -- `node_of` meets its contract.
+use borrow.Author.Needs.{needs}
 use borrow.Author.Tests.{ne-eqb}
 use Rattle.expression.specs.Stored.{decoded}
 use Rattle.expression.proofs.node_of.Statement.{statement}
@@ -30,20 +31,57 @@ returns-6 c = rw (c .match .keys6)
 
 returns-7 : tie.Need-returns-7
 unfolding decoded
-returns-7 c = rw (c .match .keys7)
+returns-7 c = rw (c .before .match .keys7) (c .band .ensures)
 
 returns-8 : tie.Need-returns-8
 unfolding decoded
-returns-8 c = rw (c .match .keys8)
+returns-8 c = rw (c .before .match .keys8) (c .band2 .ensures)
 
 returns-9 : tie.Need-returns-9
 unfolding decoded
-returns-9 c = rw (ne-eqb _ _ (c .match .rest .0 .0 .0 .0 .0 .0 .0 .1), ne-eqb _ _ (c .match .rest .0 .0 .0 .0 .0 .0 .1), ne-eqb _ _ (c .match .rest .0 .0 .0 .0 .0 .1), ne-eqb _ _ (c .match .rest .0 .0 .0 .0 .1), ne-eqb _ _ (c .match .rest .0 .0 .0 .1), ne-eqb _ _ (c .match .rest .0 .0 .1), ne-eqb _ _ (c .match .rest .0 .1), ne-eqb _ _ (c .match .rest .1))
+returns-9 c = rw (c .before .match .keys9) (c .band3 .ensures)
+
+returns-10 : tie.Need-returns-10
+unfolding decoded
+returns-10 c = rw (c .before .match .keys10) (c .band4 .ensures)
+
+returns-11 : tie.Need-returns-11
+unfolding decoded
+returns-11 c = rw (c .before .match .keys11) (c .band5 .ensures)
+
+returns-12 : tie.Need-returns-12
+unfolding decoded
+returns-12 c = rw (c .before .match .keys12) (c .band6 .ensures)
+
+returns-13 : tie.Need-returns-13
+unfolding decoded
+returns-13 c =
+    let none = c .match .rest in
+    rw (
+      ne-eqb _ _ (none .0 .0 .0 .0 .0 .0 .0 .0 .0 .0 .0 .1),
+      ne-eqb _ _ (none .0 .0 .0 .0 .0 .0 .0 .0 .0 .0 .1),
+      ne-eqb _ _ (none .0 .0 .0 .0 .0 .0 .0 .0 .0 .1),
+      ne-eqb _ _ (none .0 .0 .0 .0 .0 .0 .0 .0 .1),
+      ne-eqb _ _ (none .0 .0 .0 .0 .0 .0 .0 .1),
+      ne-eqb _ _ (none .0 .0 .0 .0 .0 .0 .1),
+      ne-eqb _ _ (none .0 .0 .0 .0 .0 .1),
+      ne-eqb _ _ (none .0 .0 .0 .0 .1),
+      ne-eqb _ _ (none .0 .0 .0 .1),
+      ne-eqb _ _ (none .0 .0 .1),
+      ne-eqb _ _ (none .0 .1),
+      ne-eqb _ _ (none .1),
+    )
 
 pub node-of-spec : {M : Type 1} → statement M
 node-of-spec =
     tie.close
     (tie.spec
+    (λ c κs. search needs)
+    (λ c κs. search needs)
+    (λ c κs. search needs)
+    (λ c κs. search needs)
+    (λ c κs. search needs)
+    (λ c κs. search needs)
     returns
     returns-2
     returns-3
@@ -52,4 +90,8 @@ node-of-spec =
     returns-6
     returns-7
     returns-8
-    returns-9)
+    returns-9
+    returns-10
+    returns-11
+    returns-12
+    returns-13)

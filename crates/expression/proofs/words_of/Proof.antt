@@ -1,7 +1,6 @@
 -- `words_of` meets its contract.
 use mathlib.Core.Path.{sym, ap, _∙_}
-use Rattle.expression.specs.declared.Upper.{Upper}
-use Rattle.expression.specs.Expression.{Sign, Join, Unary, Band}
+use Rattle.expression.specs.Expression.{Sign, Join, Unary}
 use Rattle.expression.specs.declared.Node.the-variants.{Literal, Infix, Applied}
 use Rattle.expression.specs.Stored.{decoded}
 use borrow.Author.Needs.{needs}
@@ -37,12 +36,9 @@ unfolding decoded
 returns-7 c = let n = c .before .before .before .node3 .given in ap (λ (u : Unary). Applied u (n .0 .1 .0)) (sym (c .enum-told7 .given .1)) ∙ sym (n .1)
 
 returns-8 : tie.Need-returns-8
-unfolding decoded
-returns-8 c = let m = c .before .before .before .before in let n = m .before .before .before .node3 .given in ap (λ (h : Upper). Applied (Band (record { lo = m .op .given .0 .0 .lo; hi = h })) (n .0 .1 .0)) (sym (c .before .hi .given .1)) ∙ ap (λ (u : Unary). Applied u (n .0 .1 .0)) (sym (m .op .given .1)) ∙ sym (n .1)
-
-returns-9 : tie.Need-returns-9
-unfolding decoded
-returns-9 c = let m = c .before .before .before in let n = m .before .before .before .node3 .given in ap (λ (h : Upper). Applied (Band (record { lo = m .op .given .0 .0 .lo; hi = h })) (n .0 .1 .0)) (sym (c .enum-told8 .given .1)) ∙ ap (λ (u : Unary). Applied u (n .0 .1 .0)) (sym (m .op .given .1)) ∙ sym (n .1)
+returns-8 c =
+    let n = c .before .before .before .before .before .node3 .given in
+    c .band-words .ensures ∙ ap (λ (u : Unary). Applied u (n .0 .1 .0)) (sym (c .before .before .op .given .1)) ∙ sym (n .1)
 
 pub words-of-spec : {M : Type 1} → statement M
 words-of-spec =
@@ -59,8 +55,7 @@ words-of-spec =
     (λ c. search needs)
     (λ c. search needs)
     (λ c. search needs)
-    (λ c. search needs)
-    (λ c. search needs)
+    (λ c κs. search needs)
     returns
     returns-2
     returns-3
@@ -68,5 +63,4 @@ words-of-spec =
     returns-5
     returns-6
     returns-7
-    returns-8
-    returns-9)
+    returns-8)

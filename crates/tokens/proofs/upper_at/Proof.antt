@@ -11,16 +11,16 @@ returns : tie.Need-returns
 returns c = upper-endless (c .before .byte-is .ensures .is ∙ c .if1 .taken) (c .before .byte-is .ensures .inside (c .if1 .taken))
 
 returns-2 : tie.Need-returns-2
-returns-2 c = let start = c .before .before .before .before .before .before in upper-none (start .args .text .now) (start .args .at) (c .before .before .before .before .byte-is .ensures .is ∙ c .before .before .before .if1 .left) (rw (c .enum-told .given .1) at (c .before .before .number-at .ensures))
+returns-2 c = let start = c .before .before .before .before .before .before in upper-none (start .args .text .now) (start .args .at) (c .before .before .before .before .byte-is .ensures .is ∙ c .before .before .before .if1 .left) (rw (c .enum-told .given .1) at (c .before .before .bound-at .ensures))
 
 returns-3 : tie.Need-returns-3
 returns-3 c =
-    upper-unclosed _ _ (c .before .before .before .before .before .before .before .byte-is .ensures .is ∙ c .before .before .before .before .before .before .if1 .left) (rw (c .before .before .before .close .given .1) at (c .before .before .before .before .before .number-at .ensures)) (c .before .byte-is2 .ensures .is ∙ not-true (c .before .byte-is2 .result) (c .if2 .taken))
+    upper-unclosed _ _ (c .before .before .before .before .before .before .before .byte-is .ensures .is ∙ c .before .before .before .before .before .before .if1 .left) (rw (c .before .before .before .close .given .1) at (c .before .before .before .before .before .bound-at .ensures)) (c .before .byte-is2 .ensures .is ∙ not-true (c .before .byte-is2 .result) (c .if2 .taken))
 
 returns-4 : tie.Need-returns-4
 returns-4 c =
     let m = not-false (c .before .byte-is2 .result) (c .if2 .left) in
-    upper-closed _ _ (c .before .before .before .before .before .before .before .byte-is .ensures .is ∙ c .before .before .before .before .before .before .if1 .left) (rw (c .before .before .before .close .given .1) at (c .before .before .before .before .before .number-at .ensures)) (c .before .byte-is2 .ensures .is ∙ m) (c .before .byte-is2 .ensures .inside m)
+    upper-closed _ _ (c .before .before .before .before .before .before .before .byte-is .ensures .is ∙ c .before .before .before .before .before .before .if1 .left) (rw (c .before .before .before .close .given .1) at (c .before .before .before .before .before .bound-at .ensures)) (c .before .byte-is2 .ensures .is ∙ m) (c .before .byte-is2 .ensures .inside m)
 
 pub upper-at-spec : {M : Type 1} → statement M
 upper-at-spec =
