@@ -13,9 +13,9 @@ use lib.Seq.{getD-set-same, getD-set-other}
 use mir.Syntax.{w32}
 use mir.Val.{SFits, toZ, ofZ}
 use mir.ValLaws.{toZ-ofZ}
-use Rattle.case_parts.specs.Cases.{before}
+use Rattle.case_parts.specs.Cases.{wordBefore}
 
-pub before-fits : (i : ℕ) → SFits w32 (before i)
+pub before-fits : (i : ℕ) → SFits w32 (wordBefore i)
 before-fits i = go (ltb 100_000 i) (ltb-false 100_000 i)
   where
     go : (t : Bool) → (t ≡ false → i ≤ 100_000) → SFits w32 (cond t (pos 0) (pos i))
@@ -31,6 +31,6 @@ pub passed : {P : ℕ → Type 0} {i : ℕ} → ((j : ℕ) → j < i → P j) �
 passed {P} {i} h p j l = elim (decLe (suc j) i) [ yes k ↦ h j k | no k ↦ subst P (omega arith) p ]
 
 -- one word more is filled
-pub filled : (words : List ℤ) (i : ℕ) {v : ℤ} → v ≡ before i → i < length words → ((j : ℕ) → j < i → 0 ≤ j → getD words j (pos 0) ≡ before j)
-    → (j : ℕ) → j < i + 1 → 0 ≤ j → getD (set words i v) j (pos 0) ≡ before j
+pub filled : (words : List ℤ) (i : ℕ) {v : ℤ} → v ≡ wordBefore i → i < length words → ((j : ℕ) → j < i → 0 ≤ j → getD words j (pos 0) ≡ wordBefore j)
+    → (j : ℕ) → j < i + 1 → 0 ≤ j → getD (set words i v) j (pos 0) ≡ wordBefore j
 filled words i {v} e l h = passed (λ j k z. getD-set-other words i j v (pos 0) (λ e. omega arith) ∙ h j k z) (λ z. getD-set-same words i v (pos 0) l ∙ e)

@@ -4,8 +4,7 @@ ghost use mathlib.Core.Path.{_≡_};
 ghost use mathlib.Core.Bool.{true};
 ghost use mathlib.Core.Logic.{_↔_};
 ghost use Prim.Native.Nat.{_≤_, _<_};
-ghost use lib.ListN.{length};
-ghost use Rattle.case_parts.specs.Cases.{number, toldZones, caseOf, before, Kept};
+ghost use Rattle.case_parts.specs.Cases.{fourBytes, toldZones, caseOf, wordBefore, AsBefore};
 ghost use Rattle.case_parts.specs.Zero.{Zero};
 
 // The numbers of a case: the bytes of recording and drill, the words of the answer and of the work buffer, and the zones that `front` is told.
@@ -23,9 +22,9 @@ fn wide(x: u8) -> usize
     x as usize
 }
 
-fn number(head: &[u8; 20], at: usize) -> usize
+fn four_bytes(head: &[u8; 20], at: usize) -> usize
     requires { ⌜ at ≤ 16 ⌝ }
-    ensures { λ r. ⌜ r ≡ number (now (head .entry)) at ⌝ }
+    ensures { λ r. ⌜ r ≡ fourBytes (now (head .entry)) at ⌝ }
 {
     let a = wide(head[at]);
     let b = wide(head[at + 1]);
@@ -48,17 +47,17 @@ pub fn numbers(head: &[u8; 20]) -> Case
     ensures { λ r. ⌜ r ≡ caseOf (now (head .entry)) ⌝ }
 {
     Case {
-        recording: number(head, 0),
-        drill: number(head, 4),
-        answer: number(head, 8),
-        work: number(head, 12),
-        told: told_zones(number(head, 16)),
+        recording: four_bytes(head, 0),
+        drill: four_bytes(head, 4),
+        answer: four_bytes(head, 8),
+        work: four_bytes(head, 12),
+        told: told_zones(four_bytes(head, 16)),
     }
 }
 
 // What word i of a buffer is before the call.
 fn word_before(i: usize) -> i32
-    ensures { λ r. ⌜ r ≡ before i ⌝ }
+    ensures { λ r. ⌜ r ≡ wordBefore i ⌝ }
 {
     if 100_000 < i {
         return 0;
@@ -67,7 +66,7 @@ fn word_before(i: usize) -> i32
 }
 
 pub fn fill(words: &mut [i32])
-    ensures { λ _. ⌜ Kept (now (words .exit)) 0 ⌝ }
+    ensures { λ _. ⌜ AsBefore (now (words .exit)) 0 ⌝ }
 {
     let mut i = 0;
     while i < words.len() {
@@ -78,7 +77,7 @@ pub fn fill(words: &mut [i32])
 
 // Whether all words from `start` on are as before the call.
 fn is_kept(words: &[i32], start: usize) -> bool
-    ensures { λ r. ⌜ (r ≡ true) ↔ Kept (now (words .entry)) start ⌝ }
+    ensures { λ r. ⌜ (r ≡ true) ↔ AsBefore (now (words .entry)) start ⌝ }
 {
     let mut i = start;
     while i < words.len() {
@@ -105,17 +104,6 @@ fn is_zero(words: &[i32], n: usize) -> bool
         i += 1;
     }
     true
-}
-
-// Reads n bytes from standard input into the buffer, and answers whether all of them came.
-pub fn is_read(buffer: &mut [u8], n: usize) -> bool
-    ensures { λ r. ⌜ (r ≡ true → n ≤ length (now (buffer .entry))) ⌝ }
-{
-    if buffer.len() < n {
-        return false;
-    }
-    let got = io::read_full(0, &mut buffer[..n]);
-    got == n
 }
 
 fn print(text: &[u8]) {

@@ -5,7 +5,7 @@ use lib.IntN.{ℤ}
 use lib.ListN.{length}
 use Rattle.words.specs.Words.{zone-words}
 use Rattle.recording.specs.declared.Dimensions.{Dimensions}
-use Rattle.recording.specs.Levels.{Shows}
+use Rattle.runs.specs.Levels.{Shows}
 use Rattle.expression.specs.Expression.{Expression}
 use Rattle.expression.specs.Planted.{Planted}
 use Rattle.meaning.specs.Lists.{Value, overflow, Evaluates}

@@ -10,7 +10,7 @@ ghost use Prim.Native.Nat.{_*_, _≤_};
 ghost use lib.ListN.{length};
 ghost use Rattle.words.specs.Words.{zone-words};
 ghost use Rattle.list.specs.Slots.{listAt};
-ghost use Rattle.recording.specs.Reading.{ReadAs};
+ghost use Rattle.recording.specs.Reading.{IsRecording};
 ghost use Rattle.evaluation.specs.Evaluating.{Rooted};
 ghost use Rattle.delivery.specs.Buffers.{room, words, fronted, cleared};
 ghost use Rattle.delivery.specs.Steps.{InFront, comesTo, answerAfter};
@@ -79,7 +79,7 @@ pub fn work_out(
     answer: &mut [i32],
     work: &mut [i32],
 ) -> Worked
-    requires { ⌜ (ReadAs (now bytes) size) × (Rooted (now nodes) (size .channels) root 16) ⌝ }
+    requires { ⌜ (IsRecording (now bytes) size) × (Rooted (now nodes) (size .channels) root 16) ⌝ }
     ensures { λ r. ⌜ Works (now (bytes .entry)) (now (nodes .entry)) size root r (now (answer .entry)) (now (work .entry)) (now (answer .exit)) (now (work .exit)) ⌝ }
 {
     if work.len() < WORK_WORDS {

@@ -9,8 +9,8 @@ use lib.ListN.{length}
 use Rattle.zone.specs.declared.Zone.{Zone}
 use Rattle.list.specs.Slots.{slot-words, listAt, Kept, Sound, Source}
 use Rattle.list.proofs.Slots.{kept-within, listAt-kept}
-use Rattle.recording.specs.declared.Level.{Level}
-use Rattle.recording.specs.Levels.{Shows}
+use Rattle.runs.specs.declared.Level.{Level}
+use Rattle.runs.specs.Levels.{Shows}
 use Rattle.expression.specs.declared.Node.{Node}
 use Rattle.expression.specs.declared.Sign.{Sign}
 use Rattle.expression.specs.declared.Join.{Join}

@@ -14,14 +14,14 @@ use Rattle.operators.specs.Listing.{Listing}
 use Rattle.pairs.proofs.Loops.{then, insert-each-append}
 use Rattle.list.proofs.Puts.{holds-same}
 use Rattle.list.proofs.Slots.{kept-refl, kept-trans}
-use Rattle.recording.specs.declared.Level.{Level}
-use Rattle.recording.specs.declared.Run.{Run}
-use Rattle.recording.specs.declared.Cursor.{Cursor}
-use Rattle.recording.specs.declared.Next.the-variants.{Found, None}
-use Rattle.recording.specs.Levels.{Shows}
-use Rattle.recording.specs.Runs.{FirstRun}
-use Rattle.recording.specs.Scan.{NextRun}
-use Rattle.recording.proofs.Handed.{Taken, taken-none, taken-more, taken-all, shows-runs}
+use Rattle.runs.specs.declared.Level.{Level}
+use Rattle.runs.specs.declared.Run.{Run}
+use Rattle.runs.specs.declared.Cursor.{Cursor}
+use Rattle.runs.specs.declared.Next.the-variants.{Found, None}
+use Rattle.runs.specs.Levels.{Shows}
+use Rattle.runs.specs.Runs.{FirstRun}
+use Rattle.runs.specs.Scan.{NextRun}
+use Rattle.runs.proofs.Handed.{Taken, taken-none, taken-more, taken-all, shows-runs}
 use Rattle.meaning.specs.Lists.{overflow, ended, runZones, Letter}
 use Rattle.meaning.proofs.Letters.{letter-over}
 use Rattle.values.specs.Values.{Standing}

@@ -5,7 +5,7 @@ use native.Mathlib.Nat.{pow-le-pow-right, mul-le-mul-left, mul-le-mul-right, le-
 use native.Mathlib.Omega.{arith}
 use Rattle.zone.specs.declared.Zone.{Zone}
 use Rattle.list.specs.Insert.{capacity}
-use Rattle.recording.specs.declared.Level.{Level}
+use Rattle.runs.specs.declared.Level.{Level}
 use Rattle.expression.specs.Expression.{Expression, depth}
 use Rattle.meaning.specs.Lists.{value, Evaluates}
 use Rattle.meaning.proofs.Totals.{rounds-bound}

@@ -3,14 +3,14 @@ use Prim.Native.Nat.{ℕ, _≤_}
 use mathlib.Core.List.{List}
 use native.Mathlib.Omega.{arith}
 use Rattle.recording.specs.declared.Dimensions.{Dimensions}
-use Rattle.recording.specs.Reading.{ReadAs}
+use Rattle.recording.specs.Reading.{IsRecording}
 use Rattle.recording.proofs.Refusals.{read-ticks, read-end, read-numbers, read-headed}
 use Rattle.evaluation.specs.declared.Window.{Window}
 use Rattle.evaluation.specs.Evaluating.{Looks}
 use Rattle.values.specs.Values.{Ticks}
 
 -- ticks 0 to d
-pub looks-whole : {bytes : List ℕ} {r : Dimensions} → ReadAs bytes r → Looks bytes (record { size = r; from = 0; to = r .ticks })
+pub looks-whole : {bytes : List ℕ} {r : Dimensions} → IsRecording bytes r → Looks bytes (record { size = r; from = 0; to = r .ticks })
 looks-whole read = record { read = read; some = omega (arith, read-ticks read .0); ends = omega (arith, read-end read) }
 
 module _ {bytes : List ℕ} {window : Window} (looks : Looks bytes window) where

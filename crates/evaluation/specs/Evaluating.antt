@@ -1,14 +1,14 @@
 -- What `evaluate` asks of its window and its node.
 use mathlib.Core.List.{List}
 use Prim.Native.Nat.{ℕ, _≤_, _<_}
-use Rattle.recording.specs.Reading.{ticks, ReadAs}
+use Rattle.recording.specs.Reading.{ticks, IsRecording}
 use Rattle.expression.specs.Expression.{Expression}
 use Rattle.expression.specs.Planted.{Planted}
 use Rattle.evaluation.specs.declared.Window.{Window}
 
 -- the window lies in the recording that was read
 pub record Looks (bytes : List ℕ) (w : Window) : Type 0 where
-  pub read : ReadAs bytes (w .size)
+  pub read : IsRecording bytes (w .size)
   pub some : w .from < w .to
   pub ends : w .to ≤ ticks bytes
 

@@ -6,10 +6,10 @@ use expression::Sign;
 use list::Inserted;
 use list::SLOT_WORDS;
 use operators::Listed;
-use recording::Cursor;
 use recording::Dimensions;
-use recording::Level;
-use recording::Next;
+use runs::Cursor;
+use runs::Level;
+use runs::Next;
 use values::Evaluated;
 use zone::Zone;
 ghost use mathlib.Core.Path.{_≡_};
@@ -21,7 +21,7 @@ ghost use Rattle.zone.specs.Zone.{Ranged, diagonal};
 ghost use Rattle.list.specs.Insert.{insert-each};
 ghost use Rattle.list.specs.Slots.{slot-words, listAt, Slot, Kept};
 ghost use Rattle.operators.specs.Listing.{BuiltAs};
-ghost use Rattle.recording.specs.Levels.{Shows};
+ghost use Rattle.runs.specs.Levels.{Shows};
 ghost use Rattle.expression.specs.Expression.{Expression};
 ghost use Rattle.expression.specs.Planted.{Planted};
 ghost use Rattle.meaning.specs.Satisfies.{levelOf};
@@ -77,7 +77,7 @@ fn letter(
     let mut cursor = Cursor { change: 0 };
     let mut count = 0;
     loop {
-        let Next::Found(run, onward) = recording::next_run(
+        let Next::Found(run, onward) = runs::next_run(
             bytes,
             window.size,
             channel,

@@ -14,8 +14,8 @@ use Rattle.expression.specs.declared.Node.the-variants.{Epsilon, Literal
 use Rattle.expression.specs.Expression.{Expression, epsilon, Sign, High, Low, literal, Join, Union, Intersection, Concatenation, join, Unary, Star, Band, unary}
 
 -- the node of a band
-abbrev pub band : End → Upper → ℕ → Node
-band lo hi x = Applied (Band (record { lo = lo; hi = hi })) x
+abbrev pub bandNode : End → Upper → ℕ → Node
+bandNode lo hi x = Applied (Band (record { lo = lo; hi = hi })) x
 
 -- the node of an operation and three numbers; a band has an operation for each kind of its ends
 unfoldable pub decoded : ℕ → ℕ → ℕ → ℕ → Node
@@ -26,12 +26,12 @@ decoded op x y z =
     (cond (eqb op 4) (Infix Intersection x y)
     (cond (eqb op 5) (Infix Concatenation x y)
     (cond (eqb op 6) (Applied Star x)
-    (cond (eqb op 7) (band (Closed y) Endless x)
-    (cond (eqb op 8) (band (Open y) Endless x)
-    (cond (eqb op 9) (band (Closed y) (UpTo (Closed z)) x)
-    (cond (eqb op 10) (band (Closed y) (UpTo (Open z)) x)
-    (cond (eqb op 11) (band (Open y) (UpTo (Closed z)) x)
-    (cond (eqb op 12) (band (Open y) (UpTo (Open z)) x) Epsilon)))))))))))
+    (cond (eqb op 7) (bandNode (Closed y) Endless x)
+    (cond (eqb op 8) (bandNode (Open y) Endless x)
+    (cond (eqb op 9) (bandNode (Closed y) (UpTo (Closed z)) x)
+    (cond (eqb op 10) (bandNode (Closed y) (UpTo (Open z)) x)
+    (cond (eqb op 11) (bandNode (Open y) (UpTo (Closed z)) x)
+    (cond (eqb op 12) (bandNode (Open y) (UpTo (Open z)) x) Epsilon)))))))))))
 
 -- node n of the buffer; past its end every word is 0
 unfoldable pub nodeAt : List ℕ → ℕ → Node

@@ -10,7 +10,7 @@ ghost use Prim.Native.Nat.{_+_, _*_, _≤_};
 ghost use lib.ListN.{length, getD};
 ghost use Rattle.expression.specs.declared.Upper.the-variants.{UpTo};
 ghost use Rattle.expression.specs.Refusal.{figure, Opened, WrongUpper, Wrong};
-ghost use Rattle.expression.specs.Stored.{band, decoded, nodeAt, Placed};
+ghost use Rattle.expression.specs.Stored.{bandNode, decoded, nodeAt, Placed};
 
 // An end of a range of lengths, with its number of ticks: one that belongs to the range, or one that does not.
 pub enum End {
@@ -127,8 +127,8 @@ fn word(nodes: &[u32], i: usize) -> u32
     if i < nodes.len() { nodes[i] } else { 0 }
 }
 
-fn band(lo: End, hi: Upper, operand: u32) -> Node
-    ensures { λ r. ⌜ r ≡ band lo hi operand ⌝ }
+fn band_node(lo: End, hi: Upper, operand: u32) -> Node
+    ensures { λ r. ⌜ r ≡ bandNode lo hi operand ⌝ }
 {
     Node::Applied(Unary::Band(Range { lo, hi }), operand)
 }
@@ -144,12 +144,12 @@ fn node_of(op: u32, x: u32, y: u32, z: u32) -> Node
         4 => Node::Infix(Join::Intersection, x, y),
         5 => Node::Infix(Join::Concatenation, x, y),
         6 => Node::Applied(Unary::Star, x),
-        7 => band(End::Closed(y), Upper::Endless, x),
-        8 => band(End::Open(y), Upper::Endless, x),
-        9 => band(End::Closed(y), Upper::UpTo(End::Closed(z)), x),
-        10 => band(End::Closed(y), Upper::UpTo(End::Open(z)), x),
-        11 => band(End::Open(y), Upper::UpTo(End::Closed(z)), x),
-        12 => band(End::Open(y), Upper::UpTo(End::Open(z)), x),
+        7 => band_node(End::Closed(y), Upper::Endless, x),
+        8 => band_node(End::Open(y), Upper::Endless, x),
+        9 => band_node(End::Closed(y), Upper::UpTo(End::Closed(z)), x),
+        10 => band_node(End::Closed(y), Upper::UpTo(End::Open(z)), x),
+        11 => band_node(End::Open(y), Upper::UpTo(End::Closed(z)), x),
+        12 => band_node(End::Open(y), Upper::UpTo(End::Open(z)), x),
         _ => Node::Epsilon,
     }
 }
@@ -169,7 +169,7 @@ pub fn node_at(nodes: &[u32], n: u32) -> Node
 
 // The words that stand for a band. Which of its ends belong to it is a part of the operation.
 fn band_words(lo: End, hi: Upper, operand: u32) -> Words
-    ensures { λ r. ⌜ decoded (r .0) (r .1) (r .2) (r .3) ≡ band lo hi operand ⌝ }
+    ensures { λ r. ⌜ decoded (r .0) (r .1) (r .2) (r .3) ≡ bandNode lo hi operand ⌝ }
 {
     match hi {
         Upper::Endless => match lo {

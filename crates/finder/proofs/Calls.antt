@@ -14,7 +14,7 @@ use Rattle.words.specs.Words.{zone-words}
 use Rattle.list.proofs.Antichain.{Antichain}
 use Rattle.list.specs.Slots.{listAt}
 use Rattle.recording.specs.Reading.{ticks, channels, RecordingCause, wrong-head}
-use Rattle.recording.specs.Levels.{Shows}
+use Rattle.runs.specs.Levels.{Shows}
 use Rattle.recording.proofs.Rounding.{tick-range}
 use Rattle.expression.specs.Expression.{Expression}
 use Rattle.expression.specs.Refusal.{Accepted, DrillCause, wrong-length, no-form, wrong-letter, wrong-range, too-deep}

@@ -3,8 +3,8 @@ use mathlib.Core.Path.{_≡_, subst}
 use mathlib.Core.List.{List}
 use Prim.Native.Nat.{ℕ}
 use Rattle.recording.specs.Reading.{ticks}
-use Rattle.recording.specs.Levels.{Shows}
-use Rattle.recording.proofs.Handed.{shows-runs, shows-held}
+use Rattle.runs.specs.Levels.{Shows}
+use Rattle.runs.proofs.Handed.{shows-runs, shows-held}
 use Rattle.expression.specs.Expression.{Expression}
 use Rattle.parser.proofs.Complete.{unique}
 use Rattle.meaning.specs.Lists.{Value, Evaluates}

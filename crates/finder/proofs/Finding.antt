@@ -5,8 +5,8 @@ use Prim.Native.Nat.{ℕ, _<_}
 use native.Mathlib.Omega.{arith}
 use lib.IntN.{ℤ}
 use lib.ListN.{length}
-use Rattle.recording.specs.Reading.{channels, ReadAs, ReadingAs}
-use Rattle.recording.specs.Levels.{Shows}
+use Rattle.recording.specs.Reading.{channels, IsRecording, ReadingAs}
+use Rattle.runs.specs.Levels.{Shows}
 use Rattle.recording.specs.declared.Dimensions.{Dimensions}
 use Rattle.recording.specs.declared.Reading.the-variants.{Recorded}
 use Rattle.recording.proofs.Refusals.{read-numbers, read-end}
@@ -41,7 +41,7 @@ untouched {bytes} {text} {answer} {work} {o} e c =
 -- ---- on a recording that was read
 
 module _ (bytes : List ℕ) (size : Dimensions) (read : ReadingAs largest bytes (Recorded size)) where
-  pub was-read : ReadAs bytes size
+  pub was-read : IsRecording bytes size
   was-read = read .1
 
   same-channels : size .channels ≡ channels bytes

@@ -12,7 +12,7 @@ use Rattle.zone.proofs.Laws.{ranged, ranged-more}
 use Rattle.words.specs.Words.{zone-words}
 use Rattle.list.specs.Slots.{listAt}
 use Rattle.recording.specs.Reading.{ticks, wrong-head}
-use Rattle.recording.specs.Levels.{Shows}
+use Rattle.runs.specs.Levels.{Shows}
 use Rattle.recording.proofs.Rounding.{tick-range}
 use Rattle.expression.specs.Expression.{depth}
 use Rattle.expression.specs.Refusal.{too-deep}

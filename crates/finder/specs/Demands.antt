@@ -12,8 +12,8 @@ use Rattle.star.specs.Pieces.{Pieces}
 use Rattle.list.specs.Members.{Lies, AllProper}
 use Rattle.list.specs.Slots.{listAt}
 use Rattle.recording.specs.Reading.{ticks}
-use Rattle.recording.specs.Levels.{Shows}
-use Rattle.recording.specs.declared.Level.{Level}
+use Rattle.runs.specs.Levels.{Shows}
+use Rattle.runs.specs.declared.Level.{Level}
 use Rattle.expression.specs.declared.Unary.the-variants.{Star}
 use Rattle.expression.specs.Expression.{Expression, unary}
 use Rattle.expression.specs.Grammar.{Form, alternative}

@@ -4,7 +4,7 @@ use Prim.Native.Nat.{ℕ, _<_}
 use lib.IntN.{ℤ}
 use lib.ListN.{length}
 use Rattle.recording.specs.Reading.{ticks, channels, RecordingCause}
-use Rattle.recording.specs.Levels.{Shows}
+use Rattle.runs.specs.Levels.{Shows}
 use Rattle.expression.specs.Expression.{Expression}
 use Rattle.expression.specs.Grammar.{Form, alternative}
 use Rattle.expression.specs.Refusal.{DrillCause}
@@ -47,7 +47,8 @@ abbrev pub Cause : (bytes text : List ℕ) (answer work : ℕ) → Outcome → T
 Cause bytes text answer work RecordingLength = RecordingCause largest bytes 1
 Cause bytes text answer work RecordingHead = RecordingCause largest bytes 2
 Cause bytes text answer work RecordingChange = RecordingCause largest bytes 3
--- "drill of length 0 or over 255", "drill not of the form above", "a letter at or beyond the channel count", "lo or hi above 1,000,000, or lo > hi", "depth above 16"
+-- "drill of length 0 or over 255", "drill not of the form above", "a letter at or beyond the channel count",
+-- "lo or hi above 1,000,000, or lo > hi" and "Equal lo and hi with a `<` on either", "depth above 16"
 Cause bytes text answer work DrillLength = DrillCause text (channels bytes) 4
 Cause bytes text answer work DrillForm = DrillCause text (channels bytes) 5
 Cause bytes text answer work DrillLetter = DrillCause text (channels bytes) 6

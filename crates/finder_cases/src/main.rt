@@ -3,9 +3,10 @@
 // A case is five numbers of four bytes, low byte first: the lengths of recording and drill, the words of the answer and
 // of the work buffer, and the zones that `front` is told (the largest of these numbers stands for the largest `usize`).
 // The recording and the drill follow. Word i of either buffer is i before the call.
-use finder::WORK_WORDS;
-use outcome::Outcome;
-use sheet::Printed;
+ghost use mathlib.Core.Path.{_≡_};
+ghost use mathlib.Core.Bool.{true};
+ghost use Prim.Native.Nat.{_≤_};
+ghost use lib.ListN.{length};
 
 // The largest inputs and buffers of a case.
 const RECORDING_BYTES: usize = 32_776;
@@ -16,30 +17,10 @@ const ANSWER_MOST: usize = 800;
 
 const WORK_MOST: usize = 16_400;
 
-fn print_sheet(outcome: Outcome, front: &[i32]) {
-    let mut text = [0u8; sheet::LONGEST];
-    let Printed::Bytes(n) = sheet::text(outcome, front, &mut text) else {
-        return;
-    };
-    case_parts::print_part(&text, n);
-}
-
-// What a call returned and left in both buffers.
-fn print_call(outcome: Outcome, answer: &[i32], work: &[i32], told: usize) {
-    let returned = outcome.returned();
-    case_parts::print_returned(returned.number, returned.zones, returned.rounds);
-    let listed = outcome::front(answer, returned.zones);
-    case_parts::print_answer_state(answer, listed.len());
-    case_parts::print_work_state(work, WORK_WORDS);
-    let shown = outcome::front(answer, told);
-    case_parts::print_line(b"front ", shown.len() as u64);
-    print_sheet(outcome, listed);
-}
-
 // What the finder promises stays here: that printing is safe and ends needs none of it.
 fn call(recording: &[u8], drill: &[u8], answer: &mut [i32], work: &mut [i32], told: usize) {
     let outcome = finder::find(recording, drill, answer, work);
-    print_call(outcome, answer, work, told);
+    case_prints::print_call(outcome, answer, work, told);
 }
 
 // The call with so many words of both buffers.
@@ -57,21 +38,32 @@ fn run(recording: &[u8], drill: &[u8], a: usize, w: usize, told: usize) {
     call(recording, drill, &mut answer[..a], &mut work[..w], told);
 }
 
+// Reads n bytes from standard input into the buffer, and answers whether all of them came.
+fn is_read(buffer: &mut [u8], n: usize) -> bool
+    ensures { λ r. ⌜ (r ≡ true → n ≤ length (now (buffer .entry))) ⌝ }
+{
+    if buffer.len() < n {
+        return false;
+    }
+    let got = io::read_full(0, &mut buffer[..n]);
+    got == n
+}
+
 // Reads case k and runs it; answers whether it was all there.
 fn next_case(k: u64) -> bool {
     let mut head = [0u8; 20];
-    if !case_parts::is_read(&mut head, 20) {
+    if !is_read(&mut head, 20) {
         return false;
     }
     let case = case_parts::numbers(&head);
     let n = case.recording;
     let mut recording = [0u8; RECORDING_BYTES];
-    if !case_parts::is_read(&mut recording, n) {
+    if !is_read(&mut recording, n) {
         return false;
     }
     let m = case.drill;
     let mut drill = [0u8; DRILL_BYTES];
-    if !case_parts::is_read(&mut drill, m) {
+    if !is_read(&mut drill, m) {
         return false;
     }
     case_parts::print_line(b"case ", k);

@@ -8,7 +8,7 @@ use native.Mathlib.Omega.{arith}
 use lib.IntN.{pos, negℤ}
 use Rattle.signed.proofs.Integers.{neg}
 use Rattle.signed.proofs.Integers as Z
-use Rattle.limit.specs.Time.{Time, origin, tick, later, _≤ᵀ_, _<ᵀ_}
+use Rattle.limit.specs.Time.{Time, origin, atTick, later, _≤ᵀ_, _<ᵀ_}
 use Rattle.limit.specs.Limit.{Limit, Below, Within, _≤ᴸ_, _⊕_, nought, most, least, less, more}
 use Rattle.limit.proofs.Linear.{up, dn, un, un-le, within-lin, le-lin, lin-le, sum-ud, sum-un, nought-up, nought-dn, nought-un}
 
@@ -154,8 +154,8 @@ module _ (n : ℕ) (x y : Time) where
 
 -- the same of a time and a tick
 module _ (n : ℕ) (x : Time) where
-  pub within-to : Within (most n) x origin ↔ x ≤ᵀ tick n
+  pub within-to : Within (most n) x origin ↔ x ≤ᵀ atTick n
   within-to = (λ h. record { le = omega (arith, within-most n x origin .0 h .le) }, λ h. within-most n x origin .1 (record { le = omega (arith, h .le) }))
 
-  pub within-from : Within (least n) origin x ↔ tick n ≤ᵀ x
+  pub within-from : Within (least n) origin x ↔ atTick n ≤ᵀ x
   within-from = (λ h. record { le = omega (arith, within-least n origin x .0 h .le) }, λ h. within-least n origin x .1 (record { le = omega (arith, h .le) }))

@@ -1,5 +1,5 @@
 -- The order of limits: a total preorder, with which the sum goes.
-use mathlib.Core.Path.{_≡_, ap}
+use mathlib.Core.Path.{_≡_, refl, ap}
 use mathlib.Core.Bool.{cond}
 use Prim.Native.Nat.{_+_, _*_, _≤_}
 use native.Mathlib.Decide.{decLe}
@@ -49,6 +49,9 @@ pub ⊕-nought : (l : Limit) → l ≤ᴸ l ⊕ nought
 pub nought-⊕ : (l : Limit) → l ≤ᴸ nought ⊕ l
 nought-⊕ l = lin-le (omega (arith, sum-ud nought l, sum-un nought l, nought-up, nought-dn, nought-un))
 
+pub off-nought : (l : Limit) → l ⊕ nought ≤ᴸ l
+off-nought l = lin-le (omega (arith, sum-ud l nought, sum-un l nought, nought-up, nought-dn, nought-un))
+
 -- ---- the lesser of two
 
 pub lesser-l : (l m : Limit) → lesser l m ≤ᴸ l
@@ -58,6 +61,10 @@ lesser-l l m = test (at-most l m) (λ c. cond c l m ≤ᴸ l) (λ t. ≤-refl l)
 pub lesser-r : (l m : Limit) → lesser l m ≤ᴸ m
 unfolding lesser
 lesser-r l m = test (at-most l m) (λ c. cond c l m ≤ᴸ m) (λ t. record { le = t }) (λ t. ≤-refl m)
+
+pub lesser-is-l : {l m : Limit} → l ≤ᴸ m → lesser l m ≡ l
+unfolding lesser
+lesser-is-l {l} {m} h = test (at-most l m) (λ c. cond c l m ≡ l) (λ t. refl) (λ t. absurd (T-not (at-most l m) t (h .le)))
 
 -- what holds of both holds of the lesser
 pub lesser-of : (P : Limit → Type 0) {l m : Limit} → P l → P m → P (lesser l m)

@@ -4,7 +4,7 @@ use mathlib.Core.Logic.{_⊎_, inl, inr}
 use Prim.Native.Nat.{ℕ, _*_, _≤_}
 use native.Mathlib.Decide.{decLe}
 use native.Mathlib.Omega.{arith}
-use Rattle.limit.specs.Time.{Time, tick, _≤ᵀ_, _<ᵀ_, _≈ᵀ_}
+use Rattle.limit.specs.Time.{Time, atTick, _≤ᵀ_, _<ᵀ_, _≈ᵀ_}
 use Rattle.limit.specs.Limit.{Limit, Within, _≤ᴸ_, _⊕_, nought}
 use Rattle.limit.proofs.Linear.{lin-le, sum-ud, sum-un, nought-up, nought-dn, nought-un}
 use Rattle.limit.proofs.Common.{within-widen, within-through, within-≤}
@@ -47,7 +47,7 @@ pub ≈-sym : {x y : Time} → x ≈ᵀ y → y ≈ᵀ x
 pub ≈-trans : {x y z : Time} → x ≈ᵀ y → y ≈ᵀ z → x ≈ᵀ z
 ≈-trans h k = ≤-≈ (≤-trans (≈-≤ h .0) (≈-≤ k .0)) (≤-trans (≈-≤ k .1) (≈-≤ h .1))
 
-pub tick-≤ : {m n : ℕ} → m ≤ n → tick m ≤ᵀ tick n
+pub tick-≤ : {m n : ℕ} → m ≤ n → atTick m ≤ᵀ atTick n
 tick-≤ h = record { le = omega arith }
 
 pub within-same : (l : Limit) {x y u v : Time} → x ≈ᵀ u → y ≈ᵀ v → Within l x y → Within l u v

@@ -11,11 +11,11 @@ pub record Time : Type 0 where
   pub some : 0 < den
 
 -- tick n, taken as a time
-abbrev pub tick : ℕ → Time
-tick n = record { num = n; den = 1; some = lit< tt }
+abbrev pub atTick : ℕ → Time
+atTick n = record { num = n; den = 1; some = lit< tt }
 
 abbrev pub origin : Time
-origin = tick 0
+origin = atTick 0
 
 -- the time n ticks after x
 abbrev pub later : ℕ → Time → Time

@@ -16,14 +16,14 @@ use Rattle.list.specs.Insert.{covered, outside, insert, insert-each}
 use Rattle.pairs.specs.Pairs.{pairs}
 use Rattle.operators.specs.Operators.{union as unite, meets, compositions, banded}
 use Rattle.recording.specs.Reading.{tick, le16, le32, ticks, channels}
-use Rattle.recording.specs.Levels.{Shows}
-use Rattle.recording.specs.Runs.{Runs}
-use Rattle.recording.specs.declared.Run.{Run}
+use Rattle.runs.specs.Levels.{Shows}
+use Rattle.runs.specs.Runs.{Runs}
+use Rattle.runs.specs.declared.Run.{Run}
 use Rattle.recording.specs.declared.Reading.the-variants.{Recorded}
-use Rattle.recording.proofs.Examples.{R as example}
+use Rattle.runs.proofs.Examples.{R as example}
 use Rattle.expression.specs.Expression.{Expression, depth}
 use Rattle.expression.specs.Refusal.{Accepted}
-use Rattle.tokens.specs.Tokens.{yes, branch, bind, starts, rest, expect, ranged, digits, number, numbered, bound, upper, limits}
+use Rattle.tokens.specs.Tokens.{yes, branch, bind, starts, rest, expect, ranged, digits, numeral, numbered, bound, upperEnd, limits}
 use Rattle.parser.specs.Descent.{postfixes, joining, read, height, descent}
 use Rattle.expression.specs.declared.Join.the-variants.{Union as bars}
 use Rattle.parser.specs.Readers.{width, wrong}
@@ -98,7 +98,7 @@ each (h ⨾ hs) (List·Memᴰ·tail m) = each hs m
 -- Every row of the table holds. A drill's proof is that its text is read, that it passes the tests, and how its list comes of those of `a` and
 -- `!a`; the rest is computed.
 pub marked-set : (x : Row) → List·Memᴰ x marked → RowHolds x
-unfolding tick le32 le16 descent read height branch bind starts rest expect ranged digits number numbered bound upper limits postfixes width wrong depth
+unfolding tick le32 le16 descent read height branch bind starts rest expect ranged digits numeral numbered bound upperEnd limits postfixes width wrong depth
     lesser _⊕_ tighter where-room tighten both meet across compose run diagonal everything limited bandOf covered outside insert insert-each unite pairs meets compositions banded
 marked-set x =
     let a = spelt (example .highs-are) in

@@ -13,7 +13,8 @@ use Rattle.finder.specs.Outcome.{largest, FindAs}
 use Rattle.finder.proofs.Longer.{Alike, longer}
 use Rattle.files.specs.Files.{trimmed}
 use Rattle.files.proofs.Trimmed.{trimmed-length}
-use Rattle.marks.specs.Marks.{HoldsFile, MarkedAs, Marks}
+use Rattle.marking.specs.Marking.{MarkedAs}
+use Rattle.marks.specs.Marks.{HoldsFile, Marks}
 
 -- what was read may itself be the file, so that `mark` promises something of every two buffers
 pub itself : {n : ℕ} {buffer : List ℕ} → n ≤ length buffer → HoldsFile buffer n (take n buffer)
@@ -31,15 +32,20 @@ held-trimmed {xs = xs} {ys = ys} a =
     ⊎-elim (λ (e : xs ≡ ys). inl (ap trimmed e)) (λ l. inr (omega (arith, l .0, trimmed-length xs), omega (arith, l .1, trimmed-length ys))) a
 
 -- A call on the first bytes of the buffers is a call on the files.
-pub on-files : {recording drill drive text said : List ℕ} {n m : ℕ} {answer work answer′ work′ : List ℤ} {o : Outcome} → largest < length recording → 256 < length drill
+on-files : {recording drill drive text said : List ℕ} {n m : ℕ} {answer work answer′ work′ : List ℤ} {o : Outcome} → largest < length recording → 256 < length drill
     → said ≡ trimmed (take m drill) → FindAs (take n recording) said answer work o answer′ work′ → HoldsFile recording n drive → HoldsFile drill m text
     → FindAs drive (trimmed text) answer work o answer′ work′
 on-files {recording} {n = n} {answer = answer} {work} {answer′} {work′} {o} long wide e call h d =
     longer (held long h) (held-trimmed (held wide d)) (subst (λ (t : List ℕ). FindAs (take n recording) t answer work o answer′ work′) e call)
 
--- What such calls print is what is printed for the files.
-pub of-files : {recording drill said printed : List ℕ} {n m : ℕ} {Q : Type 0} {answer work answer′ work′ : List ℤ} {o : Outcome} → largest < length recording → 256 < length drill
-    → said ≡ trimmed (take m drill) → FindAs (take n recording) said answer work o answer′ work′
-    → ((bytes text : List ℕ) → FindAs bytes text answer work o answer′ work′ → MarkedAs bytes text printed × Q)
-    → Marks recording n drill m printed × Q
-of-files long wide e call prints = (λ drive text h d. prints drive (trimmed text) (on-files long wide e call h d) .0, prints _ _ call .1)
+-- What is printed for them is what is printed for the files.
+pub of-files : {recording drill said printed : List ℕ} {n m : ℕ} → largest < length recording → 256 < length drill → said ≡ trimmed (take m drill)
+    → MarkedAs (take n recording) said printed → Marks recording n drill m printed
+of-files long wide e marked drive text h d =
+    record {
+      outcome = marked .outcome;
+      answer = marked .answer;
+      work = marked .work;
+      call = on-files long wide e (marked .call) h d;
+      sheet = marked .sheet;
+    }

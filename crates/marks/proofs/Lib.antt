@@ -1,3 +1,2 @@
--- `Files` goes from the buffers to the files, `Printing` from a call to the printed text.
+-- `Files` goes from the buffers to the files.
 pub mod Files
-pub mod Printing

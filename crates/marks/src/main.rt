@@ -1,7 +1,4 @@
 // Marks the drive in drive.rec by the drill in drill.txt, and prints the sheet.
-use finder::WORK_WORDS;
-use list::SLOT_WORDS;
-use sheet::Printed;
 ghost use lib.ListN.{take};
 ghost use Rattle.io.specs.Counts.{Counts};
 ghost use Rattle.marks.specs.Marks.{Marks};
@@ -25,27 +22,32 @@ fn mark(
     ensures sheet { λ r. ⌜ Marks (now (recording .entry)) n (now (drill .entry)) m (take r (now (out .exit))) ⌝ }
     ensures count { λ r. ⌜ Counts r (now (out .exit)) ⌝ }
 {
-    let mut answer = [0i32; SLOT_WORDS];
-    let mut work = [0i32; WORK_WORDS];
     let drive: &[u8] = recording;
     let text: &[u8] = drill;
     let k = files::drill_length(text, m);
-    let outcome = finder::find(&drive[..n], &text[..k], &mut answer, &mut work);
-    let told = outcome.returned();
-    match sheet::text(outcome, outcome::front(&answer, told.zones), out) {
-        Printed::Bytes(size) => size,
-        // Neither happens: the front is told its own zones, and no sheet is longer.
-        Printed::FrontShort => 0,
-        Printed::TooSmall => 0,
+    marking::sheet_of(&drive[..n], &text[..k], out)
+}
+
+// As much of a file as the buffer has room for; answers how many bytes that is. A file that can't be opened counts as
+// empty.
+fn read_file(path: &[u8], buffer: &mut [u8]) -> usize
+    ensures { λ r. ⌜ Counts r (now (buffer .exit)) ⌝ }
+{
+    let file = os::open_read(path);
+    if file < 0 {
+        return 0;
     }
+    let n = io::read_full(file, buffer);
+    libc::close(file);
+    n
 }
 
 fn main() {
     let mut recording = [0u8; RECORDING_BYTES];
     let mut drill = [0u8; DRILL_BYTES];
     let mut out = [0u8; sheet::LONGEST];
-    let n = files::read_file(b"drive.rec", &mut recording);
-    let m = files::read_file(b"drill.txt", &mut drill);
+    let n = read_file(b"drive.rec", &mut recording);
+    let m = read_file(b"drill.txt", &mut drill);
     let size = mark(&recording, n, &drill, m, &mut out);
     io::write_all(libc::STDOUT_FILENO, &out[..size]);
 }

@@ -14,10 +14,10 @@ use Rattle.star.specs.Star.{Closure, finished, overflow, Star as Stars}
 use Rattle.list.proofs.Theorems.{WellFormed, built-well}
 use Rattle.operators.proofs.Theorems.{union-well, meets-well, compositions-well, banded-well}
 use Rattle.star.proofs.Theorems.{star-well, star-unique, star-exists}
-use Rattle.recording.specs.declared.Level.{Level}
-use Rattle.recording.specs.declared.Run.{Run}
-use Rattle.recording.specs.Runs.{Runs}
-use Rattle.recording.proofs.Runs.{runs-unique, Complete}
+use Rattle.runs.specs.declared.Level.{Level}
+use Rattle.runs.specs.declared.Run.{Run}
+use Rattle.runs.specs.Runs.{Runs}
+use Rattle.runs.proofs.Runs.{runs-unique, Complete}
 use Rattle.expression.specs.declared.Join.the-variants.{Union, Intersection, Concatenation}
 use Rattle.expression.specs.declared.Unary.the-variants.{Star, Band}
 use Rattle.expression.specs.Expression.{Expression, epsilon, literal, join, unary}

@@ -9,9 +9,9 @@ use Rattle.zone.specs.declared.MaybeZone.the-variants.{Zone as zone}
 use Rattle.zone.specs.Zone.{run}
 use Rattle.list.specs.Insert.{Built, overflow, insert-each}
 use Rattle.pairs.proofs.Loops.{then, insert-each-append}
-use Rattle.recording.specs.declared.Run.{Run}
-use Rattle.recording.specs.Runs.{Runs, Rising, Rising.next}
-use Rattle.recording.proofs.Runs.{Scanned}
+use Rattle.runs.specs.declared.Run.{Run}
+use Rattle.runs.specs.Runs.{Runs, Rising, Rising.next}
+use Rattle.runs.proofs.Runs.{Scanned}
 use Rattle.meaning.specs.Lists.{overflow, ended, runZones, Letter}
 
 -- ---- runs found up to some tick are the first of all

@@ -1,10 +1,10 @@
 -- What it means to satisfy an expression: equal times satisfy alike, a satisfying stretch runs forward, and a letter is Definition 3's.
 use mathlib.Core.Logic.{_↔_, ⊎-map, ⊎-elim}
 use Prim.Native.Nat.{ℕ, suc}
-use Rattle.limit.specs.Time.{Time, tick, _≤ᵀ_, _<ᵀ_, _≈ᵀ_}
+use Rattle.limit.specs.Time.{Time, atTick, _≤ᵀ_, _<ᵀ_, _≈ᵀ_}
 use Rattle.limit.proofs.Times.{≤-trans, <-≤, ≈-≤, ≈-refl, ≈-sym, ≈-trans, within-same}
 use Rattle.star.specs.Pieces.{Pieces, Pieces.none, Pieces.more}
-use Rattle.recording.specs.declared.Level.{Level}
+use Rattle.runs.specs.declared.Level.{Level}
 use Rattle.expression.specs.declared.Upper.{Upper}
 use Rattle.expression.specs.declared.Upper.the-variants.{Endless, UpTo}
 use Rattle.expression.specs.declared.Join.the-variants.{Union, Intersection, Concatenation}
@@ -33,7 +33,7 @@ throughout-same p q h = record { some = <-same p q (h .some); each = λ n a b. h
 -- what holds at a time that is strictly inside a tick is what holds of the tick; "Values at the boundary points don't count", so that
 -- nothing is asked at a whole tick
 abbrev pub At : (ℕ → Type 0) → Time → Type 0
-At P t = (n : ℕ) → tick n <ᵀ t → t <ᵀ tick (suc n) → P n
+At P t = (n : ℕ) → atTick n <ᵀ t → t <ᵀ atTick (suc n) → P n
 
 -- The letter is Definition 3's: start < end, and it holds at every time strictly between.
 pub throughout-is : {P : ℕ → Type 0} {x y : Time} → Throughout P x y ↔ ((x <ᵀ y) × ((t : Time) → x <ᵀ t → t <ᵀ y → At P t))

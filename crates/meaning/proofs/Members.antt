@@ -4,7 +4,7 @@ use mathlib.Core.Logic.{_↔_, ⊎-map, ⊎-elim, Iff·trans}
 use mathlib.Core.List.{List, [], _∷_, List·Memᴰ, Memᴰ·map, Memᴰ·of-map}
 use Prim.Native.Nat.{ℕ, suc, _≤_}
 use native.Mathlib.Omega.{arith}
-use Rattle.limit.specs.Time.{Time, tick, _≤ᵀ_, _<ᵀ_}
+use Rattle.limit.specs.Time.{Time, atTick, _≤ᵀ_, _<ᵀ_}
 use Rattle.zone.specs.declared.Zone.{Zone}
 use Rattle.zone.specs.declared.MaybeZone.{MaybeZone}
 use Rattle.zone.specs.declared.MaybeZone.the-variants.{Zone as zone}
@@ -20,9 +20,9 @@ use Rattle.list.proofs.Members.{offered-one}
 use Rattle.list.proofs.Theorems.{built-lies}
 use Rattle.operators.proofs.Theorems.{union-lies, meets-lies, compositions-lies, banded-lies}
 use Rattle.star.proofs.Theorems.{star-lies}
-use Rattle.recording.specs.declared.Level.{Level}
-use Rattle.recording.specs.declared.Run.{Run}
-use Rattle.recording.proofs.Runs.{runs-unique, Complete, Held}
+use Rattle.runs.specs.declared.Level.{Level}
+use Rattle.runs.specs.declared.Run.{Run}
+use Rattle.runs.proofs.Runs.{runs-unique, Complete, Held}
 use Rattle.expression.specs.declared.Range.{Range}
 use Rattle.expression.specs.declared.Upper.{Upper}
 use Rattle.expression.specs.declared.Upper.the-variants.{Endless, UpTo}
@@ -46,7 +46,7 @@ module _ {P : ℕ → Type 0} {from to : ℕ} (runs : (rs : List Run) × Complet
   within-run : {x y : Time} → Stretch from to x y → Throughout P x y → (r : Run) × List·Memᴰ r (runs .0) × In (run (r .start) (r .end)) x y
   within-run {x} {y} s h = (k .holder, k .listed, run-members (k .holder .start) (k .holder .end) x y .1 (≤-trans (tick-≤ (k .after)) (floor-≤ x), h .some, ends))
     where
-      begins : tick (floor x) <ᵀ y
+      begins : atTick (floor x) <ᵀ y
       begins = ≤-<-trans (floor-≤ x) (h .some)
 
       k : Held (runs .0) (floor x)
@@ -55,11 +55,11 @@ module _ {P : ℕ → Type 0} {from to : ℕ} (runs : (rs : List Run) × Complet
           runs .1 .covers (floor x) (omega arith) (tick-< (<-≤-trans begins (s .2))) (h .each (floor x) (floor-< x) begins)
 
       -- else the tick at its end would be overlapped too, and so be part of it
-      ends : y ≤ᵀ tick (k .holder .end)
+      ends : y ≤ᵀ atTick (k .holder .end)
       ends =
           let m = runs .1 .runs .each (k .holder) (k .listed) in
-          let next : x <ᵀ tick (suc (k .holder .end)) = <-≤-trans (floor-< x) (tick-≤ (let d = k .before in omega arith)) in
-          ⊎-elim (λ q. q) (λ q. absurd (m .right (tick-< (<-≤-trans q (s .2))) (h .each (k .holder .end) next q))) (≤-total y (tick (k .holder .end)))
+          let next : x <ᵀ atTick (suc (k .holder .end)) = <-≤-trans (floor-< x) (tick-≤ (let d = k .before in omega arith)) in
+          ⊎-elim (λ q. q) (λ q. absurd (m .right (tick-< (<-≤-trans q (s .2))) (h .each (k .holder .end) next q))) (≤-total y (atTick (k .holder .end)))
 
   letter-members : {L : List Zone} {t : ℕ} {x y : Time} → Letter P from to (value L t) → Stretch from to x y → Lies L x y ↔ Throughout P x y
   letter-members {L} {t} {x} {y} p s =

@@ -3,7 +3,7 @@ use mathlib.Core.Logic.{⊎-elim}
 use Prim.Native.Nat.{ℕ, suc, _+_, _/_, _<_}
 use native.Mathlib.Nat.{div-mul-le-self, lt-div-mul-add}
 use native.Mathlib.Omega.{arith}
-use Rattle.limit.specs.Time.{Time, tick, _≤ᵀ_, _<ᵀ_, _≈ᵀ_}
+use Rattle.limit.specs.Time.{Time, atTick, _≤ᵀ_, _<ᵀ_, _≈ᵀ_}
 use Rattle.limit.proofs.Times.{≤-refl, ≤-trans, ≤-total, <-≤, ≈-≤}
 
 pub not-both : {x y : Time} → x <ᵀ y → ¬ (y ≤ᵀ x)
@@ -25,10 +25,10 @@ pub <-trans : {x y z : Time} → x <ᵀ y → y <ᵀ z → x <ᵀ z
 pub <-same : {x y u v : Time} → x ≈ᵀ u → y ≈ᵀ v → x <ᵀ y → u <ᵀ v
 <-same p q h = ≤-<-trans (≈-≤ p .1) (<-≤-trans h (≈-≤ q .0))
 
-pub tick-< : {m n : ℕ} → tick m <ᵀ tick n → m < n
+pub tick-< : {m n : ℕ} → atTick m <ᵀ atTick n → m < n
 tick-< h = omega (arith, h .lt)
 
-pub tick-next : (n : ℕ) → tick n <ᵀ tick (suc n)
+pub tick-next : (n : ℕ) → atTick n <ᵀ atTick (suc n)
 tick-next n = record { lt = omega arith }
 
 -- between two times there is a third
@@ -57,8 +57,8 @@ common {x} {y} {u} {v} a b c d =
 abbrev pub floor : Time → ℕ
 floor x = x .num / x .den
 
-pub floor-≤ : (x : Time) → tick (floor x) ≤ᵀ x
+pub floor-≤ : (x : Time) → atTick (floor x) ≤ᵀ x
 floor-≤ x = record { le = omega (arith, div-mul-le-self (x .num) (x .den)) }
 
-pub floor-< : (x : Time) → x <ᵀ tick (suc (floor x))
+pub floor-< : (x : Time) → x <ᵀ atTick (suc (floor x))
 floor-< x = record { lt = omega (arith, lt-div-mul-add {a = x .num} (x .some)) }

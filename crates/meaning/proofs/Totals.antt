@@ -14,7 +14,7 @@ use Rattle.operators.specs.Operators.{banded}
 use Rattle.star.specs.Star.{finished, Star as Stars}
 use Rattle.star.specs.Pieces.{Pieces}
 use Rattle.star.proofs.Theorems.{star-lies, star-unique, star-bound, star-pieces}
-use Rattle.recording.specs.declared.Level.{Level}
+use Rattle.runs.specs.declared.Level.{Level}
 use Rattle.expression.specs.declared.Unary.the-variants.{Star, Band}
 use Rattle.expression.specs.Expression.{Expression, epsilon, literal, join, unary, depth}
 use Rattle.meaning.specs.Satisfies.{Satisfies}

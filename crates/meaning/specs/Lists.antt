@@ -14,9 +14,9 @@ use Rattle.list.specs.Insert.{Built, listed, insert-each}
 use Rattle.operators.specs.Operators.{union as unite, meets, compositions, banded}
 use Rattle.star.specs.Star as rounds
 use Rattle.star.specs.Star.{Closure, finished, Star as Stars}
-use Rattle.recording.specs.declared.Level.{Level}
-use Rattle.recording.specs.declared.Run.{Run}
-use Rattle.recording.specs.Runs.{Runs}
+use Rattle.runs.specs.declared.Level.{Level}
+use Rattle.runs.specs.declared.Run.{Run}
+use Rattle.runs.specs.Runs.{Runs}
 use Rattle.expression.specs.declared.Range.{Range}
 use Rattle.expression.specs.declared.Upper.{Upper}
 use Rattle.expression.specs.declared.Upper.the-variants.{Endless, UpTo}

@@ -2,12 +2,12 @@
 -- level in tick n.
 use mathlib.Core.Logic.{_⊎_}
 use Prim.Native.Nat.{ℕ, suc}
-use Rattle.limit.specs.Time.{Time, tick, _≤ᵀ_, _<ᵀ_, _≈ᵀ_}
+use Rattle.limit.specs.Time.{Time, atTick, _≤ᵀ_, _<ᵀ_, _≈ᵀ_}
 use Rattle.limit.specs.declared.Limit.{Limit}
 use Rattle.limit.specs.Limit.{Within, most, least, less, more}
 use Rattle.star.specs.Pieces.{Pieces}
-use Rattle.recording.specs.declared.Level.{Level}
-use Rattle.recording.specs.declared.Level.the-variants.{High, Low}
+use Rattle.runs.specs.declared.Level.{Level}
+use Rattle.runs.specs.declared.Level.the-variants.{High, Low}
 use Rattle.expression.specs.declared.Range.{Range}
 use Rattle.expression.specs.declared.End.{End}
 use Rattle.expression.specs.declared.End.the-variants.{Closed, Open}
@@ -22,7 +22,7 @@ use Rattle.expression.specs.Expression.{Expression, epsilon, literal, join, una
 -- "start < end, and the channel is high in each tick that the open stretch overlaps": of what is said of a tick
 pub record Throughout (P : ℕ → Type 0) (x y : Time) : Type 0 where
   pub some : x <ᵀ y
-  pub each : (n : ℕ) → x <ᵀ tick (suc n) → tick n <ᵀ y → P n
+  pub each : (n : ℕ) → x <ᵀ atTick (suc n) → atTick n <ᵀ y → P n
 
 -- The limits that an end of a range sets, as hi on end − start, and as lo on start − end: "A `<` before lo or hi makes that end not reached".
 abbrev pub upperLimit : End → Limit

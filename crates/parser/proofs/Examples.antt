@@ -13,7 +13,7 @@ use Rattle.expression.specs.declared.Join.the-variants.{Union, Intersection, Co
 use Rattle.expression.specs.declared.Unary.the-variants.{Star, Band}
 use Rattle.expression.specs.Expression.{Expression, epsilon, literal, join, unary}
 use Rattle.expression.specs.Grammar.{Form, alternative}
-use Rattle.tokens.specs.Tokens.{Got, no, yes, branch, bind, starts, rest, expect, ranged, digits, number, numbered, bound, upper, limits}
+use Rattle.tokens.specs.Tokens.{Got, no, yes, branch, bind, starts, rest, expect, ranged, digits, numeral, numbered, bound, upperEnd, limits}
 use Rattle.parser.specs.Descent.{postfixes, joining, read, height, descent}
 use Rattle.expression.proofs.Ranges.{false-true}
 use Rattle.parser.proofs.Complete.{whole-sound, whole-complete}
@@ -54,7 +54,7 @@ pub drills : Is "_" epsilon × Is "p" (literal High 15) × Is "!p" (literal Low 
     × Is "((a))" a × Is "a{10,205}" (unary (Band (within 10 205)) a)
     × Is "a{<2,5}" (unary (Band (record { lo = Open 2; hi = UpTo (Closed 5) })) a) × Is "a{2,<5}" (unary (Band (record { lo = Closed 2; hi = UpTo (Open 5) })) a)
     × Is "a{<2,<50}" (unary (Band (record { lo = Open 2; hi = UpTo (Open 50) })) a) × Is "a{<200,}" (unary (Band (record { lo = Open 200; hi = Endless })) a)
-unfolding descent read height branch bind starts rest expect ranged digits number numbered bound upper limits postfixes
+unfolding descent read height branch bind starts rest expect ranged digits numeral numbered bound upperEnd limits postfixes
 drills = (
   whole-sound _ _ refl,
   whole-sound _ _ refl,
@@ -79,7 +79,7 @@ drills = (
 -- A leading zero, a missing lo, comma, brace or operand, blanks, letters beyond `p`, and a `<` without a number behind it are not of the form.
 pub no-drills : None "a{01,2}" × None "a{,2}" × None "a{2}" × None "()" × None "a b" × None "q" × None "!_" × None "a." × None "|a" × None "a&" × None "a{1,2" × None "(a" × None "a)"
     × None "a{2,<}" × None "a{<,5}" × None "a{<02,5}" × None "a{<<2,5}" × None "a{2<,5}" × None "a{< 2,5}" × None "a{2,5<}"
-unfolding descent read height branch bind starts rest expect ranged digits number numbered bound upper limits postfixes leftover
+unfolding descent read height branch bind starts rest expect ranged digits numeral numbered bound upperEnd limits postfixes leftover
 no-drills = (
   none _ refl,
   none _ refl,

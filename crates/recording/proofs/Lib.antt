@@ -1,8 +1,4 @@
--- Laws of recordings. `Scan` serves the proofs of this crate alone; the others are for those who use it.
+-- Laws of recordings.
 pub mod Rounding
 pub mod Refusals
-pub mod Levels
-pub mod Runs
-mod Scan
-pub mod Handed
-pub mod Examples
+pub mod Changes

@@ -12,7 +12,7 @@ use borrow.Author.Tests.{ltb-true, ltb-false, lt-ltb, leb-true, leb-false, le-le
 use lib.Dec.{leb, ltb, eqb}
 use lib.Pow.{shl-exact}
 use lib.ListN.{length}
-use Rattle.recording.specs.Reading.{Sized, Headed, Changed, AllChanged, RecordingCause, wrong-length, wrong-head, wrong-change, RecordingRefused, ReadAs, ReadingAs, dimensions, marked, headMark, changeMark, duration, channels, changes, time, levels, byteAt, ticks}
+use Rattle.recording.specs.Reading.{Sized, Headed, Changed, AllChanged, RecordingCause, wrong-length, wrong-head, wrong-change, RecordingRefused, IsRecording, ReadingAs, dimensions, hasMark, headMark, changeMark, duration, channels, changes, time, levels, byteAt, ticks}
 use Rattle.recording.specs.Tests.{sized, headed, changed, allChanged}
 use Rattle.recording.specs.declared.Dimensions.{Dimensions}
 use Rattle.recording.specs.declared.Reading.{Reading}
@@ -80,7 +80,7 @@ mark-is b = (λ e. e, λ e. e)
 pub headed-is : (bytes : List ℕ) → Tests (headed bytes) (Headed bytes)
 unfolding headed
 headed-is bytes =
-    let t = both (mark-is (marked bytes 0 headMark))
+    let t = both (mark-is (hasMark bytes 0 headMark))
     (both (both (le-is 10 (duration bytes)) (le-is (duration bytes) 10000000))
     (both (both (le-is 1 (channels bytes)) (le-is (channels bytes) 16)) (eq-is (byteAt bytes 7) 0))) in (
       λ e. let h = t .0 e in record { mark = h .0; long = h .1 .0 .0; short = h .1 .0 .1; one = h .1 .1 .0 .0; few = h .1 .1 .0 .1; blank = h .1 .1 .1 },
@@ -90,7 +90,7 @@ headed-is bytes =
 changed-is : (bytes : List ℕ) (j : ℕ) → Tests (changed bytes j) (Changed bytes j)
 unfolding changed
 changed-is bytes j =
-    let t = both (mark-is (marked bytes j changeMark)) (both (lt-is (time bytes j) (duration bytes))
+    let t = both (mark-is (hasMark bytes j changeMark)) (both (lt-is (time bytes j) (duration bytes))
     (both (above-is 1 j (time bytes (j - 1)) (time bytes j)) (eq-is (levels bytes j / 2 ^ channels bytes) 0))) in (
       λ e. let h = t .0 e in record { mark = h .0; below = h .1 .0; above = h .1 .1 .0; quiet = h .1 .1 .1 },
       λ s. t .1 (s .mark, (s .below, (s .above, s .quiet))),
@@ -220,7 +220,7 @@ module _ (largest : ℕ) (bytes : List ℕ) where
   reading-unique a b p q = sym (answer a p) ∙ answer b q
 
 -- what is known of bytes that were read as a recording
-module _ {bytes : List ℕ} {size : Dimensions} (read : ReadAs bytes size) where
+module _ {bytes : List ℕ} {size : Dimensions} (read : IsRecording bytes size) where
   -- its head and its changes are right, and its dimensions are those of the bytes
   pub read-headed : Headed bytes
   read-headed = read .headed

@@ -1,7 +1,4 @@
 -- What the contracts of `recording` cite: definitions alone.
 pub mod Reading
-pub mod Levels
-pub mod Runs
-pub mod Scan
+pub mod Changes
 pub mod Tests
-pub mod Search

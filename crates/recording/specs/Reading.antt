@@ -25,8 +25,8 @@ unfoldable pub le32 : List ℕ → ℕ → ℕ
 le32 bytes at = le16 bytes at + 65536 * le16 bytes (at + 2)
 
 -- records of 8 bytes, each after a two-byte mark that is part of the 8: record j starts at byte 8 * j
-unfoldable pub marked : List ℕ → ℕ → List ℕ → Bool
-marked bytes j mark = eqb (byteAt bytes (8 * j)) (getD mark 0 0) && eqb (byteAt bytes (8 * j + 1)) (getD mark 1 0)
+unfoldable pub hasMark : List ℕ → ℕ → List ℕ → Bool
+hasMark bytes j mark = eqb (byteAt bytes (8 * j)) (getD mark 0 0) && eqb (byteAt bytes (8 * j + 1)) (getD mark 1 0)
 
 abbrev pub headMark : List ℕ
 headMark = 0x44 ∷ 0x52 ∷ []
@@ -63,7 +63,7 @@ pub record Sized (largest : ℕ) (bytes : List ℕ) : Type 0 where
 
 -- a right head: mark 44 52, duration 10 to 10,000,000, channel count 1 to 16, a zero byte
 pub record Headed (bytes : List ℕ) : Type 0 where
-  pub mark : marked bytes 0 headMark ≡ true
+  pub mark : hasMark bytes 0 headMark ≡ true
   pub long : 10 ≤ duration bytes
   pub short : duration bytes ≤ 10000000
   pub one : 1 ≤ channels bytes
@@ -72,7 +72,7 @@ pub record Headed (bytes : List ℕ) : Type 0 where
 
 -- change j is right: mark 43 48, time below the duration, above the change before, bits at or above the channel count zero
 pub record Changed (bytes : List ℕ) (j : ℕ) : Type 0 where
-  pub mark : marked bytes j changeMark ≡ true
+  pub mark : hasMark bytes j changeMark ≡ true
   pub below : time bytes j < duration bytes
   pub above : 1 < j → time bytes (j - 1) < time bytes j
   pub quiet : levels bytes j / 2 ^ channels bytes ≡ 0
@@ -102,7 +102,7 @@ abbrev pub dimensions : List ℕ → Dimensions
 dimensions bytes = record { ticks = ticks bytes; channels = channels bytes; changes = changes bytes }
 
 -- the bytes are a recording of these dimensions: whole records and at least one, nothing wrong in them
-pub record ReadAs (bytes : List ℕ) (size : Dimensions) : Type 0 where
+pub record IsRecording (bytes : List ℕ) (size : Dimensions) : Type 0 where
   pub some : 0 < length bytes
   pub whole : length bytes % 8 ≡ 0
   pub headed : Headed bytes
@@ -110,16 +110,16 @@ pub record ReadAs (bytes : List ℕ) (size : Dimensions) : Type 0 where
   pub measured : size ≡ dimensions bytes
 
 -- document 01's number of each answer, 0 being that of a recording that is read
-abbrev pub number : Reading → ℕ
-number WrongLength = 1
-number WrongHead = 2
-number WrongChange = 3
-number (Recorded size) = 0
+abbrev pub readingNumber : Reading → ℕ
+readingNumber WrongLength = 1
+readingNumber WrongHead = 2
+readingNumber WrongChange = 3
+readingNumber (Recorded size) = 0
 
 -- The answer for bytes of which there may be so many. Refused: the number is that of the first cause. Read: no cause holds, and the dimensions
 -- are those of the bytes.
 abbrev pub ReadingAs : (largest : ℕ) (bytes : List ℕ) → Reading → Type 0
-ReadingAs largest bytes WrongLength = RecordingRefused largest bytes (number WrongLength)
-ReadingAs largest bytes WrongHead = RecordingRefused largest bytes (number WrongHead)
-ReadingAs largest bytes WrongChange = RecordingRefused largest bytes (number WrongChange)
-ReadingAs largest bytes (Recorded size) = ((n : ℕ) → ¬ RecordingCause largest bytes n) × ReadAs bytes size
+ReadingAs largest bytes WrongLength = RecordingRefused largest bytes (readingNumber WrongLength)
+ReadingAs largest bytes WrongHead = RecordingRefused largest bytes (readingNumber WrongHead)
+ReadingAs largest bytes WrongChange = RecordingRefused largest bytes (readingNumber WrongChange)
+ReadingAs largest bytes (Recorded size) = ((n : ℕ) → ¬ RecordingCause largest bytes n) × IsRecording bytes size

@@ -4,7 +4,7 @@ use mathlib.Core.List.{List}
 use Prim.Native.Nat.{ℕ, zero, suc, _-_, _/_, _%_, _^_}
 use lib.Dec.{leb, ltb, eqb}
 use lib.ListN.{length}
-use Rattle.recording.specs.Reading.{byteAt, marked, headMark, changeMark, duration, channels, time, levels}
+use Rattle.recording.specs.Reading.{byteAt, hasMark, headMark, changeMark, duration, channels, time, levels}
 
 -- `Sized`
 unfoldable pub sized : ℕ → List ℕ → Bool
@@ -13,7 +13,7 @@ sized largest bytes = ltb 0 (length bytes) && (leb (length bytes) largest && eqb
 -- `Headed`
 unfoldable pub headed : List ℕ → Bool
 headed bytes =
-    marked bytes 0 headMark
+    hasMark bytes 0 headMark
     && ((leb 10 (duration bytes) && leb (duration bytes) 10000000)
     && ((leb 1 (channels bytes) && leb (channels bytes) 16)
     && eqb (byteAt bytes 7) 0))
@@ -21,7 +21,7 @@ headed bytes =
 -- `Changed`
 unfoldable pub changed : List ℕ → ℕ → Bool
 changed bytes j =
-    marked bytes j changeMark
+    hasMark bytes j changeMark
     && (ltb (time bytes j) (duration bytes)
     && ((leb j 1 || ltb (time bytes (j - 1)) (time bytes j))
     && eqb (levels bytes j / 2 ^ channels bytes) 0))

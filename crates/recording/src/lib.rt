@@ -1,23 +1,15 @@
 // Switch recordings. `read` judges any bytes: they are turned back, by the table's number, or they are a recording of so many
-// ticks, channels and changes. Of a recording that was read, `next_run` gives the runs of ticks in which a channel has a
-// level, one after the other.
+// ticks, channels and changes. Of a recording that was read, `begins` and `levels_of` tell where a change holds from, and what
+// it sets.
 
 ghost use mathlib.Core.Path.{_≡_};
 ghost use mathlib.Core.Bool.{_&&_, _||_};
-ghost use Prim.Native.Nat.{_+_, _-_, _*_, _^_, _≤_, _<_, min, max};
+ghost use Prim.Native.Nat.{_+_, _-_, _*_, _^_, _≤_, _<_};
 ghost use lib.Dec.{leb, ltb};
 ghost use lib.ListN.{length};
-ghost use Rattle.recording.specs.Reading.{tick as tickOf, byteAt, le16 as le16At, le32 as le32At, marked as markedBy, duration as durationOf, channels as channelsOf, time as timeOf, ticks as ticksOf, ReadAs, ReadingAs};
-ghost use Rattle.recording.specs.Levels.{levelIn};
-ghost use Rattle.recording.specs.Scan.{begins as beginsAt, NextRun};
+ghost use Rattle.recording.specs.Reading.{tick as tickOf, byteAt, le16 as le16At, le32 as le32At, hasMark, duration as durationOf, channels as channelsOf, time as timeOf, levels as levelsOf, IsRecording, ReadingAs};
+ghost use Rattle.recording.specs.Changes.{begins as beginsAt};
 ghost use Rattle.recording.specs.Tests.{sized as sizedBy, headed as headedBy, changed as changedBy, allChanged};
-ghost use Rattle.recording.specs.Search.{sameLevel, leaves as leavesAt, Sought};
-
-// A level of a channel.
-pub enum Level {
-    High,
-    Low,
-}
 
 // The dimensions of a recording: its length in ticks, its channels, and its changes, which are the records 1 to `changes`.
 pub struct Dimensions {
@@ -32,24 +24,6 @@ pub enum Reading {
     WrongHead,
     WrongChange,
     Recorded(Dimensions),
-}
-
-// A run of ticks, from `start` to before `end`.
-pub struct Run {
-    pub start: u32,
-    pub end: u32,
-}
-
-// A place among the changes. Change 0 is the time before the first one. Callers start there and pass on what they get:
-// which change a cursor names is free, and only its tick is promised.
-pub struct Cursor {
-    pub change: usize,
-}
-
-// The next run, and the cursor behind it.
-pub enum Next {
-    Found(Run, Cursor),
-    None,
 }
 
 // The two-byte marks of the records.
@@ -90,9 +64,9 @@ fn tick(m: u32) -> u32
 }
 
 // Record j starts with the mark.
-fn marked(bytes: &[u8], j: usize, mark: [u8; 2]) -> bool
+fn has_mark(bytes: &[u8], j: usize, mark: [u8; 2]) -> bool
     requires { ⌜ 8 * j + 1 < length (now bytes) ⌝ }
-    ensures { λ r. ⌜ r ≡ markedBy (now (bytes .entry)) j mark ⌝ }
+    ensures { λ r. ⌜ r ≡ hasMark (now (bytes .entry)) j mark ⌝ }
 {
     le16(bytes, 8 * j) == le16(&mark, 0)
 }
@@ -121,7 +95,7 @@ fn headed(bytes: &[u8]) -> bool
     requires { ⌜ 8 ≤ length (now bytes) ⌝ }
     ensures { λ r. ⌜ r ≡ headedBy (now (bytes .entry)) ⌝ }
 {
-    if !marked(bytes, 0, HEAD) {
+    if !has_mark(bytes, 0, HEAD) {
         return false;
     }
     if !between(le32(bytes, 2), 10, 10_000_000) {
@@ -149,7 +123,7 @@ fn changed(bytes: &[u8], j: usize, bits: u32) -> bool
     requires { ⌜ (8 * j + 7 < length (now bytes)) × (bits ≡ 2 ^ channelsOf (now bytes)) ⌝ }
     ensures { λ r. ⌜ changedBy (now (bytes .entry)) j ≡ (r && ltb (timeOf (now (bytes .entry)) j) (durationOf (now (bytes .entry)))) ⌝ }
 {
-    if !marked(bytes, j, CHANGE) {
+    if !has_mark(bytes, j, CHANGE) {
         return false;
     }
     if !rises(bytes, j) {
@@ -204,8 +178,8 @@ pub fn read(bytes: &[u8], largest: usize) -> Reading
 }
 
 // The tick from which change j holds: 0 for j = 0, and the end of the recording after the last change.
-fn begins(bytes: &[u8], size: Dimensions, j: usize) -> u32
-    requires { ⌜ ReadAs (now bytes) size ⌝ }
+pub fn begins(bytes: &[u8], size: Dimensions, j: usize) -> u32
+    requires { ⌜ IsRecording (now bytes) size ⌝ }
     ensures { λ r. ⌜ r ≡ beginsAt (now (bytes .entry)) j ⌝ }
 {
     if j == 0 {
@@ -217,124 +191,10 @@ fn begins(bytes: &[u8], size: Dimensions, j: usize) -> u32
     tick(le32(bytes, 8 * j + 2))
 }
 
-// The level of a channel in a change's levels; a channel beyond the sixteenth is low.
-fn level_in(word: u32, channel: u8) -> Level
-    requires { ⌜ word < 65536 ⌝ }
-    ensures { λ r. ⌜ r ≡ levelIn word channel ⌝ }
-{
-    if 16 <= channel {
-        return Level::Low;
-    }
-    if (word >> channel) % 2 == 1 {
-        Level::High
-    } else {
-        Level::Low
-    }
-}
-
-fn same(a: Level, b: Level) -> bool
-    ensures { λ r. ⌜ r ≡ sameLevel a b ⌝ }
-{
-    match a {
-        Level::High => match b {
-            Level::High => true,
-            Level::Low => false,
-        },
-        Level::Low => match b {
-            Level::High => false,
-            Level::Low => true,
-        },
-    }
-}
-
-// Change j leaves the channel at the level; before the first change it is low.
-fn leaves(bytes: &[u8], channel: u8, level: Level, j: usize) -> bool
+// The levels that change j sets, a bit for each channel.
+pub fn levels_of(bytes: &[u8], j: usize) -> u32
     requires { ⌜ 8 * j + 7 < length (now bytes) ⌝ }
-    ensures { λ r. ⌜ r ≡ leavesAt (now (bytes .entry)) channel level j ⌝ }
+    ensures { λ r. ⌜ (r ≡ levelsOf (now (bytes .entry)) j) × (r < 65536) ⌝ }
 {
-    if j == 0 {
-        return same(Level::Low, level);
-    }
-    same(level_in(le16(bytes, 8 * j + 6), channel), level)
-}
-
-fn earlier(a: u32, b: u32) -> u32
-    ensures { λ r. ⌜ r ≡ min a b ⌝ }
-{
-    if a < b { a } else { b }
-}
-
-fn later(a: u32, b: u32) -> u32
-    ensures { λ r. ⌜ r ≡ max a b ⌝ }
-{
-    if a < b { b } else { a }
-}
-
-// Change i leaves its levels for some tick of from..to, or `to` comes before it.
-fn reaches(bytes: &[u8], size: Dimensions, from: u32, to: u32, i: usize) -> bool
-    requires { ⌜ ReadAs (now bytes) size × (i ≤ size .changes) ⌝ }
-    ensures { λ r. ⌜ r ≡ (leb to (beginsAt (now (bytes .entry)) i) || ltb (max from (beginsAt (now (bytes .entry)) i)) (min to (beginsAt (now (bytes .entry)) (i + 1)))) ⌝ }
-{
-    let a = begins(bytes, size, i);
-    if to <= a {
-        return true;
-    }
-    later(from, a) < earlier(to, begins(bytes, size, i + 1))
-}
-
-// The first change from j on that gives ticks of from..to the level, or another one where it is not wanted.
-fn seek(
-    bytes: &[u8],
-    size: Dimensions,
-    channel: u8,
-    level: Level,
-    from: u32,
-    to: u32,
-    j: usize,
-    wanted: bool,
-) -> usize
-    requires { ⌜ ReadAs (now bytes) size × (to ≤ ticksOf (now bytes)) ⌝ }
-    ensures { λ r. ⌜ Sought (now (bytes .entry)) channel level from to j wanted r ⌝ }
-{
-    let mut i = j;
-    while i <= size.changes {
-        // Most changes are of other channels, and a tick takes a division.
-        if leaves(bytes, channel, level, i) == wanted {
-            if reaches(bytes, size, from, to, i) {
-                return i;
-            }
-        }
-        i += 1;
-    }
-    i
-}
-
-// The next maximal run of a channel at a level within the ticks from..to, from a cursor on. A cursor at change 0 starts at `from`.
-pub fn next_run(
-    bytes: &[u8],
-    size: Dimensions,
-    channel: u8,
-    level: Level,
-    from: u32,
-    to: u32,
-    cursor: Cursor,
-) -> Next
-    requires { ⌜ ReadAs (now bytes) size ⌝ }
-    ensures { λ r. ⌜ NextRun (now (bytes .entry)) channel level from to cursor r ⌝ }
-{
-    let end = earlier(to, size.ticks);
-    let first = seek(bytes, size, channel, level, from, end, cursor.change, true);
-    let a = begins(bytes, size, first);
-    if end <= a {
-        return Next::None;
-    }
-    let past = seek(bytes, size, channel, level, from, end, first + 1, false);
-    let b = begins(bytes, size, past);
-    Next::Found(
-        Run {
-            start: later(from, a),
-            end: earlier(end, b),
-        },
-        Cursor { change: past },
-    )
+    le16(bytes, 8 * j + 6)
 }

@@ -5,7 +5,7 @@ use mathlib.Core.List.{List, [], _∷_}
 use Prim.Native.Nat.{ℕ, _+_, _-_, _≤_, _<_}
 use native.Mathlib.Omega.{arith}
 use lib.ListN.{length}
-use Rattle.limit.specs.Time.{Time, tick, _≤ᵀ_}
+use Rattle.limit.specs.Time.{Time, atTick, _≤ᵀ_}
 use Rattle.zone.specs.declared.Zone.{Zone}
 use Rattle.zone.specs.declared.MaybeZone.the-variants.{Zone as zone}
 use Rattle.zone.specs.Zone.{diagonal}
@@ -21,7 +21,7 @@ use Rattle.list.proofs.Theorems.{one-proper, each-proper, each-antichain, each-
 
 module _ {from to : ℕ} {inner : List Zone} {r : ℕ} {G : List Zone} (s : Star inner (diagonal from to) (finished r G)) where
   -- `*`: some number of consecutive pieces that each lie in the inner list, without bound, zero (start = end) included
-  pub star-lies : AllProper from to inner → (x y : Time) → tick from ≤ᵀ x → y ≤ᵀ tick to → Lies G x y ↔ ((n : ℕ) × Pieces (Lies inner) n x y)
+  pub star-lies : AllProper from to inner → (x y : Time) → atTick from ≤ᵀ x → y ≤ᵀ atTick to → Lies G x y ↔ ((n : ℕ) × Pieces (Lies inner) n x y)
   star-lies h x y a b = (
     λ l. let c = star-cut h s x y (λ i. diagonal-members from to x y .0 i .1) l in (c .0, c .2),
     λ p. star-glue h s x y (λ e. diagonal-members from to x y .1 (a, e, b)) (p .1),

@@ -10,7 +10,7 @@ use lib.Dec.{leb}
 use lib.ListN.{length, take, drop, set, length-append, length-take, length-drop, drop-of-length-le, take-append-drop}
 use lib.Seq.{take-nil, take-all, take-append-le, take-append-add, take-at, drop-at, drop-drop, set-split}
 use borrow.Author.Tests.{le-leb, lt-leb, leb-true, leb-false}
-use Rattle.text.specs.Buffer.{Written, Bytes, TooSmall, onto, fitted, behind, reached, Appends}
+use Rattle.text.specs.Buffer.{Written, Bytes, TooSmall, onto, fitted, behind, writtenAfter, Appends}
 
 -- ---- the two ways that a text lies in a buffer
 
@@ -68,7 +68,7 @@ full-onto s t o h =
 
 module _ {out : List ℕ} (b : ℕ) where
   pub put-in : (at : ℕ) → at < length out → Appends (b ∷ []) out (Bytes at) (set out at b) (Bytes (at + 1))
-  unfolding behind reached
+  unfolding behind writtenAfter
   put-in at l =
       record {
         bytes = rw (set-split out at b l, fits-onto (b ∷ []) (drop at out) (omega (arith, length-drop at out)), drop-drop 1 at out, add-one);
@@ -76,7 +76,7 @@ module _ {out : List ℕ} (b : ℕ) where
       }
 
   pub put-full : (at : ℕ) → length out ≤ at → Appends (b ∷ []) out (Bytes at) out TooSmall
-  unfolding behind reached onto
+  unfolding behind writtenAfter onto
   put-full at l =
       record {
         bytes = rw (take-all at out l, drop-of-length-le out {i = at} l, append-nil);
@@ -85,7 +85,7 @@ module _ {out : List ℕ} (b : ℕ) where
 
   -- after a text that had no room nothing goes in
   pub put-none : Appends (b ∷ []) out TooSmall out TooSmall
-  unfolding behind reached
+  unfolding behind writtenAfter
   put-none = record { bytes = refl; answer = refl }
 
 -- ---- a text piece by piece
@@ -96,7 +96,7 @@ nothing-behind (Bytes n) out = rw (nothing-onto (drop n out)) (take-append-drop 
 nothing-behind TooSmall out = refl
 
 pub nothing : {out : List ℕ} {w : Written} → Appends [] out w out w
-unfolding reached
+unfolding writtenAfter
 nothing {out} {w} = record { bytes = sym (nothing-behind w out); answer = refl }
 
 length-behind : (s : List ℕ) (w : Written) (out : List ℕ) → length (behind s w out) ≡ length out
@@ -104,8 +104,8 @@ unfolding behind
 length-behind s (Bytes n) out = simp (length-append, length-onto, length-take, length-drop) (omega arith)
 length-behind s TooSmall out = refl
 
-reached-none : (t : List ℕ) (room : ℕ) → reached t TooSmall room ≡ TooSmall
-unfolding reached
+reached-none : (t : List ℕ) (room : ℕ) → writtenAfter t TooSmall room ≡ TooSmall
+unfolding writtenAfter
 reached-none [] room = refl
 reached-none (c ∷ t) room = refl
 
@@ -122,26 +122,26 @@ module _ (p t : List ℕ) (n : ℕ) where
       (λ h. rw (over-fitted (n + length p) (length out) h, full-onto p t (drop n out) (omega (arith, length-drop n out))))
       (or-longer (n + length p) (length out))
 
-  reached-fits : (u : List ℕ) (room : ℕ) → n + length p ≤ room → reached u (Bytes (n + length p)) room ≡ fitted (n + (length p + length u)) room
-  unfolding reached
+  reached-fits : (u : List ℕ) (room : ℕ) → n + length p ≤ room → writtenAfter u (Bytes (n + length p)) room ≡ fitted (n + (length p + length u)) room
+  unfolding writtenAfter
   reached-fits [] room h = sym (fits-fitted (n + length p) room h) ∙ ap (λ (k : ℕ). fitted k room) (omega arith)
   reached-fits (c ∷ u) room h = ap (λ (k : ℕ). fitted k room) (omega arith)
 
-  reached-some : (room : ℕ) → reached t (fitted (n + length p) room) room ≡ fitted (n + length (p ++ t)) room
+  reached-some : (room : ℕ) → writtenAfter t (fitted (n + length p) room) room ≡ fitted (n + length (p ++ t)) room
   reached-some room =
       ⊎-elim
       (λ h. rw (fits-fitted (n + length p) room h, length-append p t) (reached-fits t room h))
       (λ h. rw (over-fitted (n + length p) room h, over-fitted (n + length (p ++ t)) room (omega (arith, length-append p t))) (reached-none t room))
       (or-longer (n + length p) room)
 
-behind-both : (s t : List ℕ) (w : Written) (out : List ℕ) → behind t (reached s w (length out)) (behind s w out) ≡ behind (s ++ t) w out
-unfolding behind reached
+behind-both : (s t : List ℕ) (w : Written) (out : List ℕ) → behind t (writtenAfter s w (length out)) (behind s w out) ≡ behind (s ++ t) w out
+unfolding behind writtenAfter
 behind-both [] t w out = rw (nothing-behind w out)
 behind-both (b ∷ s) t TooSmall out = refl
 behind-both (b ∷ s) t (Bytes n) out = behind-some (b ∷ s) t n out
 
-reached-both : (s t : List ℕ) (w : Written) (room : ℕ) → reached t (reached s w room) room ≡ reached (s ++ t) w room
-unfolding reached
+reached-both : (s t : List ℕ) (w : Written) (room : ℕ) → writtenAfter t (writtenAfter s w room) room ≡ writtenAfter (s ++ t) w room
+unfolding writtenAfter
 reached-both [] t w room = refl
 reached-both (b ∷ s) t TooSmall room = reached-none t room
 reached-both (b ∷ s) t (Bytes n) room = reached-some (b ∷ s) t n room
@@ -157,6 +157,6 @@ _then_ {s} {t} {a} {u = u} f g =
 -- ---- a whole text, from the front on
 
 pub whole : (s : List ℕ) {out out′ : List ℕ} {w : Written} → Appends s out (Bytes 0) out′ w → (out′ ≡ onto s out) × (w ≡ fitted (length s) (length out))
-unfolding behind reached
+unfolding behind writtenAfter
 whole [] {out} a = (a .bytes, a .answer ∙ sym (fits-fitted 0 (length out) (omega arith)))
 whole (b ∷ s) {out} a = (a .bytes, a .answer ∙ ap (λ (k : ℕ). fitted k (length out)) (omega arith))

@@ -22,12 +22,12 @@ behind piece (Bytes n) out = take n out ++ onto piece (drop n out)
 behind piece TooSmall out = out
 
 -- and what is answered then; a piece without a byte changes nothing
-unfoldable pub reached : List ℕ → Written → ℕ → Written
-reached [] w room = w
-reached (b ∷ s) (Bytes n) room = fitted (n + length (b ∷ s)) room
-reached (b ∷ s) TooSmall room = TooSmall
+unfoldable pub writtenAfter : List ℕ → Written → ℕ → Written
+writtenAfter [] w room = w
+writtenAfter (b ∷ s) (Bytes n) room = fitted (n + length (b ∷ s)) room
+writtenAfter (b ∷ s) TooSmall room = TooSmall
 
 -- what a step from `out` and w to `out′` and w′ does: the piece goes behind what is written so far
 pub record Appends (piece out : List ℕ) (w : Written) (out′ : List ℕ) (w′ : Written) : Type 0 where
   pub bytes : out′ ≡ behind piece w out
-  pub answer : w′ ≡ reached piece w (length out)
+  pub answer : w′ ≡ writtenAfter piece w (length out)

@@ -13,7 +13,7 @@ use Rattle.expression.specs.declared.End.the-variants.{Closed, Open}
 use Rattle.expression.specs.declared.Upper.{Upper}
 use Rattle.expression.specs.declared.Upper.the-variants.{UpTo}
 use Rattle.expression.specs.Grammar.{Number, digit, digit-after, Bound, reached, not-reached, Limits, from, between}
-use Rattle.tokens.specs.Tokens.{yes, bind, rest, expect, ranged, digits, number, numbered, bound, upper, limits, no, branch, starts}
+use Rattle.tokens.specs.Tokens.{yes, bind, rest, expect, ranged, digits, numeral, numbered, bound, upperEnd, limits, no, branch, starts}
 use Rattle.tokens.proofs.Text.{no-yes, yes-text, yes-value, bind-yes, branch-split, starts-is}
 
 pub expect-sound : {A : Type 0} (c : ℕ) (x : A) (s : List ℕ) (y : A) (r : List ℕ) → expect c x s ≡ yes y r → (x ≡ y) × (s ≡ c ∷ r)
@@ -61,8 +61,8 @@ digits-sound n (c ∷ s) w m r e f =
     stop : yes n (c ∷ s) ≡ yes m r → (u : List ℕ) × ((c ∷ s) ≡ u ++ r) × Number (w ++ u) m
     stop x = ([], yes-text x, subst (λ (y : ℕ). Number (w ++ []) y) (yes-value x) (rw append-nil f))
 
-number-sound : (s : List ℕ) (m : ℕ) (r : List ℕ) → number s ≡ yes m r → (u : List ℕ) × (s ≡ u ++ r) × Number u m
-unfolding number
+number-sound : (s : List ℕ) (m : ℕ) (r : List ℕ) → numeral s ≡ yes m r → (u : List ℕ) × (s ≡ u ++ r) × Number u m
+unfolding numeral
 number-sound s m r e =
     let b = bind-yes _ _ e in
     let h = ranged-sound 48 10 s (b .0) (b .1) (b .2) in
@@ -86,9 +86,9 @@ bound-sound s x r e =
     (λ p. let h = numbered-sound Closed s x r (p .1) in (h .0, h .1, subst (Bound (h .0)) (h .4) (reached (h .3))))
     (branch-split _ _ _ e)
 
-upper-sound : (s w : List ℕ) (lo : End) (x : Upper) (r : List ℕ) → upper s ≡ yes x r → Bound w lo
+upper-sound : (s w : List ℕ) (lo : End) (x : Upper) (r : List ℕ) → upperEnd s ≡ yes x r → Bound w lo
     → (u : List ℕ) × ((44 ∷ s) ≡ u ++ (125 ∷ r)) × Limits (w ++ u) (record { lo = lo; hi = x })
-unfolding upper
+unfolding upperEnd
 upper-sound s w lo x r e f =
     ⊎-elim
     (λ p. (
@@ -147,8 +147,8 @@ digits-off n (c ∷ s) e = go (ltb 0 n) (ltb c 48) (ltb (c - 48) 10) refl refl r
     go true false false p q r = rw (p, q, r)
     go true false true p q r = let z : _≡_ {A = ℕ} 0 1 = cc (rw (q, r) at e) in absurd (omega arith)
 
-number-complete : {u : List ℕ} {n : ℕ} → Number u n → (r : List ℕ) → number (u ++ r) ≡ digits n r
-unfolding number bind
+number-complete : {u : List ℕ} {n : ℕ} → Number u n → (r : List ℕ) → numeral (u ++ r) ≡ digits n r
+unfolding numeral bind
 number-complete (digit {d = d} h) = λ r. rw (ranged-on 48 10 d r h)
 number-complete (digit-after {s = s} {n = n} {d = d} f h k) = λ r. rw append-assoc (number-complete f ((48 + d) ∷ r) ∙ digits-on n d r h k)
 
@@ -175,8 +175,8 @@ bound-head : {u : List ℕ} {x : End} → Bound u x → (c : ℕ) × (v : List �
 bound-head (reached f) = let g = number-head f in (g .0, g .1, g .2, omega (arith, g .3))
 bound-head (not-reached {s = s} f) = (60, s, refl, omega arith)
 
-upper-complete : {u : List ℕ} {x : End} → Bound u x → (r : List ℕ) → upper (u ++ (125 ∷ r)) ≡ yes (UpTo x) r
-unfolding upper branch bind expect starts rest ranged
+upper-complete : {u : List ℕ} {x : End} → Bound u x → (r : List ℕ) → upperEnd (u ++ (125 ∷ r)) ≡ yes (UpTo x) r
+unfolding upperEnd branch bind expect starts rest ranged
 upper-complete {u} {x} f r =
     let g = bound-head f in
     let d : g .0 ≡ 125 → ⊥ = omega (arith, g .3) in
@@ -184,7 +184,7 @@ upper-complete {u} {x} f r =
     rw (g .2) (rw (ne-eqb _ _ d, e))
 
 pub limits-complete : {u : List ℕ} {x : Range} → Limits u x → (r : List ℕ) → limits (u ++ (125 ∷ r)) ≡ yes x r
-unfolding limits bind expect branch upper starts rest ranged
+unfolding limits bind expect branch upperEnd starts rest ranged
 limits-complete (from {s = s} {lo = lo} f) = λ r.
     let e : bound (s ++ (44 ∷ 125 ∷ r)) ≡ yes lo (44 ∷ 125 ∷ r) = bound-complete f (44 ∷ 125 ∷ r) refl in
     rw (append-assoc, e)

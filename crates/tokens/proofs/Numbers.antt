@@ -9,7 +9,7 @@ use Rattle.expression.specs.declared.Upper.{Upper}
 use Rattle.expression.specs.declared.End.{End}
 use Rattle.expression.specs.declared.End.the-variants.{Closed, Open}
 use Rattle.expression.specs.declared.Upper.the-variants.{Endless, UpTo}
-use Rattle.tokens.specs.Tokens.{no, yes, branch, bind, starts, expect, ranged, digits, number, numbered, bound, upper, limits, cap, cappedEnd, cappedUpper, cappedRange, Got-at}
+use Rattle.tokens.specs.Tokens.{no, yes, branch, bind, starts, expect, ranged, digits, numeral, numbered, bound, upperEnd, limits, cap, cappedEnd, cappedUpper, cappedRange, Got-at}
 use Rattle.tokens.specs.Readers.{Offset-at}
 use Rattle.tokens.proofs.Text.{rest-drop}
 use Rattle.tokens.proofs.Grammar.{ranged-sound, digits-on, digits-off}
@@ -50,26 +50,26 @@ pub record Counted (text : List ℕ) (at pos v : ℕ) : Type 0 where
   pub size : ℕ
   pub is : v ≡ cap size
   pub most : v ≤ 1000001
-  pub read : number (drop at text) ≡ digits size (drop pos text)
+  pub read : numeral (drop at text) ≡ digits size (drop pos text)
 
-pub number-none : (s : List ℕ) → ranged 48 10 s ≡ no → number s ≡ no
-unfolding number bind
+pub number-none : (s : List ℕ) → ranged 48 10 s ≡ no → numeral s ≡ no
+unfolding numeral bind
 number-none s e = rw e
 
 pub number-first : {text : List ℕ} {at k : ℕ} → Offset-at 48 10 text at k → Counted text at (at + 1) k
-unfolding number bind
+unfolding numeral bind
 number-first {k = k} o =
     record { ahead = omega arith; inside = omega (arith, o .inside); size = k; is = cap-small k (omega (arith, o .small)); most = omega (arith, o .small); read = rw (o .read) }
 
-counted : {text : List ℕ} {at pos v : ℕ} (s : Counted text at pos v) → digits (s .size) (drop pos text) ≡ yes (s .size) (drop pos text) → Got-at number cap text at pos v
+counted : {text : List ℕ} {at pos v : ℕ} (s : Counted text at pos v) → digits (s .size) (drop pos text) ≡ yes (s .size) (drop pos text) → Got-at numeral cap text at pos v
 counted s e = record { ahead = s .ahead; inside = s .inside; x = s .size; is = s .is; read = s .read ∙ e }
 
-pub counts-zero : {text : List ℕ} {at pos v : ℕ} → Counted text at pos v → v ≤ 0 → Got-at number cap text at pos v
+pub counts-zero : {text : List ℕ} {at pos v : ℕ} → Counted text at pos v → v ≤ 0 → Got-at numeral cap text at pos v
 counts-zero {text} {pos = pos} s h =
     let z : s .size ≡ 0 = cap-zero (s .size) (omega (arith, s .is)) in
     counted s (rw z (digits-zero (drop pos text)))
 
-pub counts-off : {text : List ℕ} {at pos v : ℕ} → Counted text at pos v → ranged 48 10 (drop pos text) ≡ no → Got-at number cap text at pos v
+pub counts-off : {text : List ℕ} {at pos v : ℕ} → Counted text at pos v → ranged 48 10 (drop pos text) ≡ no → Got-at numeral cap text at pos v
 counts-off {text} {pos = pos} s e = counted s (digits-off (s .size) (drop pos text) e)
 
 pub counts-on : {text : List ℕ} {at pos v w d : ℕ} → Counted text at pos v → 0 < v → Offset-at 48 10 text pos d → w ≡ cap (v * 10 + d) → Counted text at (pos + 1) w
@@ -88,11 +88,11 @@ counts-on {text} {pos = pos} {v = v} {d = d} s h o e =
 
 -- a number as an end of either kind
 module _ (kind : ℕ → End) (capped-kind : (n : ℕ) → cappedEnd (kind n) ≡ kind (cap n)) (text : List ℕ) (at : ℕ) where
-  numbered-none : number (drop at text) ≡ no → numbered kind (drop at text) ≡ no
+  numbered-none : numeral (drop at text) ≡ no → numbered kind (drop at text) ≡ no
   unfolding numbered bind
   numbered-none e = rw e
 
-  numbered-is : {a v : ℕ} → Got-at number cap text at a v → Got-at (numbered kind) cappedEnd text at a (kind v)
+  numbered-is : {a v : ℕ} → Got-at numeral cap text at a v → Got-at (numbered kind) cappedEnd text at a (kind v)
   unfolding numbered bind
   numbered-is n =
       record { ahead = n .ahead; inside = n .inside; x = kind (n .x); is = ap kind (n .is) ∙ sym (capped-kind (n .x)); read = rw (n .read) }
@@ -103,10 +103,10 @@ module _ (text : List ℕ) (at : ℕ) (plain : starts 60 (drop at text) ≡ fals
   unfolding bound branch
   bound-plain = rw plain
 
-  pub closed-none : number (drop at text) ≡ no → bound (drop at text) ≡ no
+  pub closed-none : numeral (drop at text) ≡ no → bound (drop at text) ≡ no
   closed-none e = bound-plain ∙ numbered-none Closed (λ n. refl) text at e
 
-  pub closed-is : {a v : ℕ} → Got-at number cap text at a v → Got-at bound cappedEnd text at a (Closed v)
+  pub closed-is : {a v : ℕ} → Got-at numeral cap text at a v → Got-at bound cappedEnd text at a (Closed v)
   closed-is n = let m = numbered-is Closed (λ n. refl) text at n in record { ahead = m .ahead; inside = m .inside; x = m .x; is = m .is; read = bound-plain ∙ m .read }
 
 -- one does
@@ -115,10 +115,10 @@ module _ (text : List ℕ) (at : ℕ) (sign : starts 60 (drop at text) ≡ true)
   unfolding bound branch
   bound-sign = rw (sign, rest-drop text at inside)
 
-  pub open-none : number (drop (at + 1) text) ≡ no → bound (drop at text) ≡ no
+  pub open-none : numeral (drop (at + 1) text) ≡ no → bound (drop at text) ≡ no
   open-none e = bound-sign ∙ numbered-none Open (λ n. refl) text (at + 1) e
 
-  pub open-is : {a v : ℕ} → Got-at number cap text (at + 1) a v → Got-at bound cappedEnd text at a (Open v)
+  pub open-is : {a v : ℕ} → Got-at numeral cap text (at + 1) a v → Got-at bound cappedEnd text at a (Open v)
   open-is n =
       let m = numbered-is Open (λ n. refl) text (at + 1) n in
       record { ahead = omega (arith, m .ahead); inside = m .inside; x = m .x; is = m .is; read = bound-sign ∙ m .read }
@@ -126,27 +126,27 @@ module _ (text : List ℕ) (at : ℕ) (sign : starts 60 (drop at text) ≡ true)
 -- RANGES
 
 -- the closing brace stands where hi may
-pub upper-endless : {text : List ℕ} {at : ℕ} → starts 125 (drop at text) ≡ true → at < length text → Got-at upper cappedUpper text at (at + 1) Endless
-unfolding upper branch
+pub upper-endless : {text : List ℕ} {at : ℕ} → starts 125 (drop at text) ≡ true → at < length text → Got-at upperEnd cappedUpper text at (at + 1) Endless
+unfolding upperEnd branch
 upper-endless {text} {at} e h = record { ahead = omega arith; inside = omega arith; x = Endless; is = refl; read = rw (e, rest-drop text at h) }
 
 -- it does not
 module _ (text : List ℕ) (at : ℕ) (more : starts 125 (drop at text) ≡ false) where
-  upper-is : upper (drop at text) ≡ bind (bound (drop at text)) (λ e r. expect 125 (UpTo e) r)
-  unfolding upper branch
+  upper-is : upperEnd (drop at text) ≡ bind (bound (drop at text)) (λ e r. expect 125 (UpTo e) r)
+  unfolding upperEnd branch
   upper-is = rw more
 
-  pub upper-none : bound (drop at text) ≡ no → upper (drop at text) ≡ no
+  pub upper-none : bound (drop at text) ≡ no → upperEnd (drop at text) ≡ no
   unfolding bind
   upper-none e = upper-is ∙ rw e
 
   -- hi ends at b
   module _ {b : ℕ} {w : End} (m : Got-at bound cappedEnd text at b w) where
-    pub upper-unclosed : starts 125 (drop b text) ≡ false → upper (drop at text) ≡ no
+    pub upper-unclosed : starts 125 (drop b text) ≡ false → upperEnd (drop at text) ≡ no
     unfolding bind expect branch
     upper-unclosed e = upper-is ∙ rw (m .read) (rw e)
 
-    pub upper-closed : starts 125 (drop b text) ≡ true → b < length text → Got-at upper cappedUpper text at (b + 1) (UpTo w)
+    pub upper-closed : starts 125 (drop b text) ≡ true → b < length text → Got-at upperEnd cappedUpper text at (b + 1) (UpTo w)
     unfolding bind expect branch
     upper-closed e h =
         record {
@@ -169,15 +169,15 @@ module _ {text : List ℕ} {at a : ℕ} {v : End} (n : Got-at bound cappedEnd te
 
   -- the comma is there
   module _ (comma : starts 44 (drop a text) ≡ true) (inside : a < length text) where
-    range-on : limits (drop at text) ≡ bind (upper (drop (a + 1) text)) (λ u p. yes (record { lo = n .x; hi = u }) p)
+    range-on : limits (drop at text) ≡ bind (upperEnd (drop (a + 1) text)) (λ u p. yes (record { lo = n .x; hi = u }) p)
     unfolding limits bind expect branch
     range-on = rw (n .read) (rw (comma, rest-drop text a inside))
 
-    pub range-open : upper (drop (a + 1) text) ≡ no → limits (drop at text) ≡ no
+    pub range-open : upperEnd (drop (a + 1) text) ≡ no → limits (drop at text) ≡ no
     unfolding bind
     range-open e = range-on ∙ rw e
 
-    pub range-is : {b : ℕ} {u : Upper} → Got-at upper cappedUpper text (a + 1) b u → Got-at limits cappedRange text at b (record { lo = v; hi = u })
+    pub range-is : {b : ℕ} {u : Upper} → Got-at upperEnd cappedUpper text (a + 1) b u → Got-at limits cappedRange text at b (record { lo = v; hi = u })
     unfolding bind
     range-is u =
         record {

@@ -13,20 +13,20 @@ use Rattle.tokens.specs.declared.Braces.{Braces}
 use Rattle.tokens.specs.declared.Braces.the-variants.{Limits, NoRange}
 use Rattle.tokens.specs.declared.Offset.{Offset}
 use Rattle.tokens.specs.declared.Offset.the-variants.{By, Outside}
-use Rattle.tokens.specs.Tokens.{no, yes, ranged, number, bound, upper, limits, cap, cappedEnd, cappedUpper, cappedRange, Got-at}
+use Rattle.tokens.specs.Tokens.{no, yes, ranged, numeral, bound, upperEnd, limits, cap, cappedEnd, cappedUpper, cappedRange, Got-at}
 
 -- a number, an end, an upper end, a range: where it ends and its value, or that there is none
 abbrev pub NumberAs : List ℕ → ℕ → Digits → Type 0
-NumberAs text at (Value a v) = Got-at number cap text at a v
-NumberAs text at NoNumber = number (drop at text) ≡ no
+NumberAs text at (Value a v) = Got-at numeral cap text at a v
+NumberAs text at NoNumber = numeral (drop at text) ≡ no
 
 abbrev pub BoundAs : List ℕ → ℕ → Bounded → Type 0
 BoundAs text at (Bound a e) = Got-at bound cappedEnd text at a e
 BoundAs text at NoBound = bound (drop at text) ≡ no
 
 abbrev pub UpperAs : List ℕ → ℕ → Closing → Type 0
-UpperAs text at (Hi a u) = Got-at upper cappedUpper text at a u
-UpperAs text at NoHi = upper (drop at text) ≡ no
+UpperAs text at (Hi a u) = Got-at upperEnd cappedUpper text at a u
+UpperAs text at NoHi = upperEnd (drop at text) ≡ no
 
 abbrev pub RangeAs : List ℕ → ℕ → Braces → Type 0
 RangeAs text at (Limits a r) = Got-at limits cappedRange text at a r

@@ -61,23 +61,23 @@ digits n (c ∷ s) =
     branch (ltb 0 n) (λ _. branch (ltb c 48) (λ _. yes n (c ∷ s)) (λ _. branch (ltb (c - 48) 10) (λ _. digits (n * 10 + (c - 48)) s) (λ _. yes n (c ∷ s))))
     (λ _. yes n (c ∷ s))
 
-unfoldable pub number : List ℕ → Got ℕ
-number s = bind (ranged 48 10 s) digits
+unfoldable pub numeral : List ℕ → Got ℕ
+numeral s = bind (ranged 48 10 s) digits
 
 -- an end of a range: a number, or `<` and a number
 unfoldable pub numbered : (ℕ → End) → List ℕ → Got End
-numbered kind s = bind (number s) (λ n r. yes (kind n) r)
+numbered kind s = bind (numeral s) (λ n r. yes (kind n) r)
 
 unfoldable pub bound : List ℕ → Got End
 bound s = branch (starts 60 s) (λ _. numbered Open (rest s)) (λ _. numbered Closed s)
 
 -- the upper end of a range, with the closing brace
-unfoldable pub upper : List ℕ → Got Upper
-upper s = branch (starts 125 s) (λ _. yes Endless (rest s)) (λ _. bind (bound s) (λ e r. expect 125 (UpTo e) r))
+unfoldable pub upperEnd : List ℕ → Got Upper
+upperEnd s = branch (starts 125 s) (λ _. yes Endless (rest s)) (λ _. bind (bound s) (λ e r. expect 125 (UpTo e) r))
 
 -- what stands after an opening brace, with the closing one
 unfoldable pub limits : List ℕ → Got Range
-limits s = bind (bound s) (λ e r. bind (expect 44 e r) (λ lo q. bind (upper q) (λ hi p. yes (record { lo = lo; hi = hi }) p)))
+limits s = bind (bound s) (λ e r. bind (expect 44 e r) (λ lo q. bind (upperEnd q) (λ hi p. yes (record { lo = lo; hi = hi }) p)))
 
 -- an operator with one operand: `*`, or a range in braces
 abbrev pub postfix : List ℕ → Got Unary

@@ -5,7 +5,7 @@ use native.Mathlib.Omega.{arith}
 use borrow.Author.Needs.{needs}
 use lib.IntN.{pos, negℤ}
 use Rattle.signed.proofs.Integers.{neg, diff}
-use Rattle.limit.specs.Time.{Time, origin, tick, _≤ᵀ_, _<ᵀ_, _≈ᵀ_}
+use Rattle.limit.specs.Time.{Time, origin, atTick, _≤ᵀ_, _<ᵀ_, _≈ᵀ_}
 use Rattle.limit.specs.declared.Limit.{Limit}
 use Rattle.limit.specs.declared.Limit.the-variants.{AtMost, Below}
 use Rattle.limit.specs.Limit.{Within, _≤ᴸ_, _⊕_, nought}
@@ -62,7 +62,7 @@ closed-by z n =
 module _ (from to : ℕ) where
   -- ---- a run
 
-  pub run-members : (x y : Time) → In (run from to) x y ↔ ((tick from ≤ᵀ x) × (x <ᵀ y) × (y ≤ᵀ tick to))
+  pub run-members : (x y : Time) → In (run from to) x y ↔ ((atTick from ≤ᵀ x) × (x <ᵀ y) × (y ≤ᵀ atTick to))
   unfolding run
   run-members x y = (
     λ h. (within-from from x .0 (h .nstart), within-< x y .0 (h .nlength), within-to to y .0 (h .end)),
@@ -114,7 +114,7 @@ module _ (from to : ℕ) where
 
   -- ---- the diagonal
 
-  pub diagonal-members : (x y : Time) → In (diagonal from to) x y ↔ ((tick from ≤ᵀ x) × (x ≈ᵀ y) × (y ≤ᵀ tick to))
+  pub diagonal-members : (x y : Time) → In (diagonal from to) x y ↔ ((atTick from ≤ᵀ x) × (x ≈ᵀ y) × (y ≤ᵀ atTick to))
   unfolding diagonal everything
   diagonal-members x y = (
     λ h. (within-from from x .0 (h .nstart), record { same = omega (arith, within-≤ x y .0 (h .nlength) .le, within-≤ y x .0 (h .length) .le) }, within-to to y .0 (h .end)),

@@ -9,7 +9,7 @@ use borrow.Author.Tests.{le-ltb}
 use lib.Dec.{T}
 use lib.IntN.{ℤ, pos, _-ℤ_, _*ℤ_}
 use Rattle.signed.proofs.Integers.{arithZ, neg}
-use Rattle.limit.specs.Time.{Time, origin, tick, difference, scaled, _≤ᵀ_, _<ᵀ_, _≈ᵀ_}
+use Rattle.limit.specs.Time.{Time, origin, atTick, difference, scaled, _≤ᵀ_, _<ᵀ_, _≈ᵀ_}
 use Rattle.limit.specs.declared.Limit.{Limit}
 use Rattle.limit.specs.declared.Limit.the-variants.{AtMost, Below}
 use Rattle.limit.specs.Limit.{Within, _≤ᴸ_, nought, most}
@@ -254,10 +254,10 @@ ranged-more h r = record { start = omega (arith, r .start); nstart = omega (arit
 
 -- ==== 7. The zones to begin with
 
-pub run-members : (from to : ℕ) (x y : Time) → In (run from to) x y ↔ ((tick from ≤ᵀ x) × (x <ᵀ y) × (y ≤ᵀ tick to))
+pub run-members : (from to : ℕ) (x y : Time) → In (run from to) x y ↔ ((atTick from ≤ᵀ x) × (x <ᵀ y) × (y ≤ᵀ atTick to))
 run-members from to = run-means from to refl .members
 
-pub diagonal-members : (from to : ℕ) (x y : Time) → In (diagonal from to) x y ↔ ((tick from ≤ᵀ x) × (x ≈ᵀ y) × (y ≤ᵀ tick to))
+pub diagonal-members : (from to : ℕ) (x y : Time) → In (diagonal from to) x y ↔ ((atTick from ≤ᵀ x) × (x ≈ᵀ y) × (y ≤ᵀ atTick to))
 diagonal-members from to = diagonal-means from to refl .members
 
 pub everything-members : (from to : ℕ) (x y : Time) → In (everything from to) x y ↔ Stretch from to x y
@@ -297,7 +297,7 @@ pos-sub zero h = ap pos (omega arith)
 pos-sub (suc b) {to} h = rw (le-ltb to (suc b) h)
 
 -- a stretch inside from..to lasts at most to − from
-pub whole-most : {from to : ℕ} {x y : Time} → from ≤ to → tick from ≤ᵀ x → x ≤ᵀ y → y ≤ᵀ tick to → Within (most (to - from)) y x
+pub whole-most : {from to : ℕ} {x y : Time} → from ≤ to → atTick from ≤ᵀ x → x ≤ᵀ y → y ≤ᵀ atTick to → Within (most (to - from)) y x
 unfolding everything
 whole-most {from} {to} {x} {y} h a b c = subst (λ (v : ℤ). Within (AtMost v) y x) (pos-sub from h) (everything-members from to x y .1 (a, b, c) .length)
 

@@ -8,6 +8,7 @@ pub mod Sharp
 pub mod Tight
 pub mod Fine
 pub mod Begin
+mod Bands
 pub mod Means
 pub mod Range
 pub mod Lengths

@@ -4,7 +4,7 @@ use mathlib.Core.Logic.{_↔_}
 use Prim.Native.Nat.{ℕ, _≤_, _<_}
 use lib.Dec.{T}
 use lib.IntN.{pos, negℤ, _-ℤ_}
-use Rattle.limit.specs.Time.{Time, origin, tick, _≤ᵀ_, _<ᵀ_, _≈ᵀ_}
+use Rattle.limit.specs.Time.{Time, origin, atTick, _≤ᵀ_, _<ᵀ_, _≈ᵀ_}
 use Rattle.limit.specs.declared.Limit.{Limit}
 use Rattle.limit.specs.declared.Limit.the-variants.{AtMost, Below}
 use Rattle.limit.specs.Limit.{Within, at-most, _≤ᴸ_, _⊕_, lesser, nought, most, least, Small}
@@ -30,7 +30,7 @@ InMaybe empty x y = ⊥
 
 -- "A stretch has start ≤ end, both in 0 to d": of ticks from..to
 abbrev pub Stretch : ℕ → ℕ → Time → Time → Type 0
-Stretch from to x y = (tick from ≤ᵀ x) × (x ≤ᵀ y) × (y ≤ᵀ tick to)
+Stretch from to x y = (atTick from ≤ᵀ x) × (x ≤ᵀ y) × (y ≤ᵀ atTick to)
 
 -- every member is a stretch of ticks from..to
 pub record Inside (from to : ℕ) (z : Zone) : Type 0 where
@@ -252,12 +252,12 @@ pub record Contains (z w : Zone) (r : Bool) : Type 0 where
 
 -- a run: "s ≤ start, end ≤ e, start < end"
 pub record IsRun (from to : ℕ) (z : Zone) : Type 0 where
-  pub members : (x y : Time) → In z x y ↔ ((tick from ≤ᵀ x) × (x <ᵀ y) × (y ≤ᵀ tick to))
+  pub members : (x y : Time) → In z x y ↔ ((atTick from ≤ᵀ x) × (x <ᵀ y) × (y ≤ᵀ atTick to))
   pub tight : from < to → Tight z
 
 -- the diagonal: "start = end from 0 to d"
 pub record IsDiagonal (from to : ℕ) (z : Zone) : Type 0 where
-  pub members : (x y : Time) → In z x y ↔ ((tick from ≤ᵀ x) × (x ≈ᵀ y) × (y ≤ᵀ tick to))
+  pub members : (x y : Time) → In z x y ↔ ((atTick from ≤ᵀ x) × (x ≈ᵀ y) × (y ≤ᵀ atTick to))
   pub tight : from ≤ to → Tight z
 
 -- all stretches: "start ≤ end, both in 0 to d"

@@ -268,14 +268,29 @@ impl Zone {
     }
 
     // The stretches within ticks from..to whose length keeps to a limit on end − start and one on start − end; Empty
-    // where there is none.
+    // where there is none. Where some length is left, only the latest start and the earliest end are still to be tightened.
     pub fn band(from: u32, to: u32, longest: Limit, shortest: Limit) -> MaybeZone
         requires { ⌜ (from ≤ most-ticks) × (to ≤ most-ticks) × (Small most-ticks longest) × (Small most-ticks shortest) ⌝ }
         ensures value { λ r. ⌜ r ≡ band from to longest shortest ⌝ }
         ensures meaning { λ r. ⌜ IsBand from to longest shortest r ⌝ }
     {
-        Zone::everything(from, to)
-            .limited(longest, shortest)
-            .tighten()
+        let z = Zone::everything(from, to).limited(longest, shortest);
+        let s = z.start;
+        let ns = z.nstart;
+        let e = z.end;
+        let ne = z.nend;
+        let l = z.length;
+        let nl = z.nlength;
+        if !l.leaves_room(nl) {
+            return MaybeZone::Empty;
+        }
+        MaybeZone::Zone(Zone {
+            start: s.or_sum(nl, e),
+            nstart: ns,
+            end: e,
+            nend: ne.or_sum(ns, nl),
+            length: l,
+            nlength: nl,
+        })
     }
 }

@@ -8,13 +8,13 @@ use mir.Syntax.{w32}
 use mir.Val.{toZ, ofZ}
 use mir.ValLaws.{toZ-ofZ}
 use borrow.Author.Needs.{needs}
-use Rattle.case_parts.specs.Cases.{before}
+use Rattle.case_parts.specs.Cases.{wordBefore}
 use Rattle.case_parts.proofs.Words.{before-fits, filled}
 use Rattle.case_parts.proofs.fill.Statement.{statement}
 use Rattle.case_parts.proofs.fill.Tie as tie
 
 abbrev Inv-loop : tie.InvT-loop
-Inv-loop words₀ i₀ words i = (i ≤ length words) × (length words ≡ length words₀) × ((j : ℕ) → j < i → 0 ≤ j → getD words j (pos 0) ≡ before j)
+Inv-loop words₀ i₀ words i = (i ≤ length words) × (length words ≡ length words₀) × ((j : ℕ) → j < i → 0 ≤ j → getD words j (pos 0) ≡ wordBefore j)
 
 abbrev μ-loop : tie.MeasureT-loop
 μ-loop words₀ i₀ words i = length words - i

@@ -8,13 +8,13 @@ use lib.ListN.{length, getD}
 use mir.Syntax.{w32}
 use mir.Val.{ofZ}
 use borrow.Author.Needs.{needs}
-use Rattle.case_parts.specs.Cases.{before}
+use Rattle.case_parts.specs.Cases.{wordBefore}
 use Rattle.case_parts.proofs.Words.{before-fits, same-word, passed}
 use Rattle.case_parts.proofs.is_kept.Statement.{statement}
 use Rattle.case_parts.proofs.is_kept.Tie as tie
 
 abbrev Inv-loop : tie.InvT-loop
-Inv-loop words start i₀ i = (start ≤ i) × ((j : ℕ) → j < i → start ≤ j → getD words j (pos 0) ≡ before j)
+Inv-loop words start i₀ i = (start ≤ i) × ((j : ℕ) → j < i → start ≤ j → getD words j (pos 0) ≡ wordBefore j)
 
 abbrev μ-loop : tie.MeasureT-loop
 μ-loop words start i₀ i = length words - i

@@ -4,7 +4,7 @@ use mathlib.Core.Path.{_∙_}
 use native.Mathlib.Omega.{arith}
 use borrow.Author.Needs.{needs}
 use Rattle.list.proofs.Slots.{kept-trans}
-use Rattle.recording.specs.Scan.{position}
+use Rattle.runs.specs.Scan.{position}
 use Rattle.evaluation.proofs.Letters.{Spelt, spelt-none, spelt-all, spelt-more, spelt-over, run-ranged}
 use Rattle.evaluation.proofs.Windows.{looks-ticks}
 use Rattle.evaluation.proofs.letter.Statement.{statement}

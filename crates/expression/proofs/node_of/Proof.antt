@@ -31,27 +31,27 @@ returns-6 c = rw (c .match .keys6)
 
 returns-7 : tie.Need-returns-7
 unfolding decoded
-returns-7 c = rw (c .before .match .keys7) (c .band .ensures)
+returns-7 c = rw (c .before .match .keys7) (c .band-node .ensures)
 
 returns-8 : tie.Need-returns-8
 unfolding decoded
-returns-8 c = rw (c .before .match .keys8) (c .band2 .ensures)
+returns-8 c = rw (c .before .match .keys8) (c .band-node2 .ensures)
 
 returns-9 : tie.Need-returns-9
 unfolding decoded
-returns-9 c = rw (c .before .match .keys9) (c .band3 .ensures)
+returns-9 c = rw (c .before .match .keys9) (c .band-node3 .ensures)
 
 returns-10 : tie.Need-returns-10
 unfolding decoded
-returns-10 c = rw (c .before .match .keys10) (c .band4 .ensures)
+returns-10 c = rw (c .before .match .keys10) (c .band-node4 .ensures)
 
 returns-11 : tie.Need-returns-11
 unfolding decoded
-returns-11 c = rw (c .before .match .keys11) (c .band5 .ensures)
+returns-11 c = rw (c .before .match .keys11) (c .band-node5 .ensures)
 
 returns-12 : tie.Need-returns-12
 unfolding decoded
-returns-12 c = rw (c .before .match .keys12) (c .band6 .ensures)
+returns-12 c = rw (c .before .match .keys12) (c .band-node6 .ensures)
 
 returns-13 : tie.Need-returns-13
 unfolding decoded

@@ -2,10 +2,10 @@
 use mathlib.Core.Path.{ap, sym, _∙_}
 use native.Mathlib.Omega.{arith}
 use borrow.Author.Tests.{eq-eqb}
-use Rattle.recording.specs.Scan.{begins}
+use Rattle.recording.specs.Changes.{begins}
 use Rattle.recording.specs.declared.Dimensions.{Dimensions}
 use Rattle.recording.proofs.Refusals.{read-numbers, read-count, read-room, read-time}
-use Rattle.recording.proofs.Levels.{begins-change, begins-end}
+use Rattle.recording.proofs.Changes.{begins-change, begins-end}
 use Rattle.recording.proofs.begins.Statement.{statement}
 use Rattle.recording.proofs.begins.Tie as tie
 

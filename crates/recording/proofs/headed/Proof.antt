@@ -7,24 +7,24 @@ use Rattle.recording.proofs.headed.Tie as tie
 
 returns : tie.Need-returns
 unfolding headed
-returns c = rw (failed (c .before .marked .ensures) (c .if1 .taken))
+returns c = rw (failed (c .before .has-mark .ensures) (c .if1 .taken))
 
 returns-2 : tie.Need-returns-2
 unfolding headed
-returns-2 c = rw (passed (c .before .before .before .before .marked .ensures) (c .before .before .before .if1 .left), ← c .before .before .le32 .ensures, failed (c .before .between .ensures) (c .if2 .taken))
+returns-2 c = rw (passed (c .before .before .before .before .has-mark .ensures) (c .before .before .before .if1 .left), ← c .before .before .le32 .ensures, failed (c .before .between .ensures) (c .if2 .taken))
 
 returns-3 : tie.Need-returns-3
 unfolding headed
 returns-3 c =
-    let the-marked = c .before .before .before .before .before .before .before .before .marked in
-    rw (passed (the-marked .ensures) (c .before .before .before .before .before .before .before .if1 .left), ← c .before .before .before .before .before .before .le32 .ensures, passed (c .before .before .before .before .before .between .ensures) (c .before .before .before .before .if2 .left), ← c .before .before .wide .ensures .0, failed (c .before .between2 .ensures) (c .if3 .taken))
+    let the-mark = c .before .before .before .before .before .before .before .before .has-mark in
+    rw (passed (the-mark .ensures) (c .before .before .before .before .before .before .before .if1 .left), ← c .before .before .before .before .before .before .le32 .ensures, passed (c .before .before .before .before .before .between .ensures) (c .before .before .before .before .if2 .left), ← c .before .before .wide .ensures .0, failed (c .before .between2 .ensures) (c .if3 .taken))
 
 returns-4 : tie.Need-returns-4
 unfolding headed
 returns-4 c =
-    let the-marked = c .before .before .before .before .before .before .before .before .before .marked in
+    let the-mark = c .before .before .before .before .before .before .before .before .before .has-mark in
     let the-if1 = c .before .before .before .before .before .before .before .before .if1 in
-    rw (passed (the-marked .ensures) (the-if1 .left), ← c .before .before .before .before .before .before .before .le32 .ensures, passed (c .before .before .before .before .before .before .between .ensures) (c .before .before .before .before .before .if2 .left), ← c .before .before .before .wide .ensures .0, passed (c .before .before .between2 .ensures) (c .before .if3 .left))
+    rw (passed (the-mark .ensures) (the-if1 .left), ← c .before .before .before .before .before .before .before .le32 .ensures, passed (c .before .before .before .before .before .before .between .ensures) (c .before .before .before .before .before .if2 .left), ← c .before .before .before .wide .ensures .0, passed (c .before .before .between2 .ensures) (c .before .if3 .left))
 
 pub headed-spec : {M : Type 1} → statement M
 headed-spec =

@@ -1,0 +1,2 @@
+-- `Printing` goes from a call to the printed text.
+pub mod Printing
