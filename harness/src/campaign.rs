@@ -10,7 +10,7 @@ use crate::finder::{self, Found, Returned, WORK_WORDS};
 use crate::inputs::{self, Input};
 use crate::proved::{self, Proved};
 use crate::random::Rng;
-use crate::recording::Recording;
+use crate::recording::{times, Recording};
 use crate::refusal::Refusal;
 use crate::zone::{Zone, WORDS};
 use crate::zones::{Star, MAX_ZONES};
@@ -278,10 +278,17 @@ fn check_accepted(
     }
     let reached = |part: &Drill| !matches!(part, Drill::Within(_, band) if !band.is_reached());
     tally.not_reached += u64::from(!drill.all(&reached));
+    tally.halves_down += u64::from(times(&input.recording).any(is_half_down));
     if recording.ticks() <= MAX_BRUTE_TICKS {
         tally.stretches += brute::compare(&drill, &recording, zones)?;
     }
     Ok(())
+}
+
+/// Whether a time lies halfway between two ticks of which the lower is even: here, and nowhere
+/// else, going to the even tick differs from going up.
+fn is_half_down(ms: u32) -> bool {
+    ms % 20 == 5
 }
 
 /// All that is needed to make a call again.
@@ -309,6 +316,8 @@ struct Tally {
     returned: [u64; Refusal::LAST + 1],
     /// Accepted drills with a bound that is not reached.
     not_reached: u64,
+    /// Accepted recordings with a time or a duration that is a half and goes down.
+    halves_down: u64,
     zones: u64,
     stars: u64,
     most_rounds: u64,
@@ -326,7 +335,8 @@ impl Tally {
         self.most_rounds = self.most_rounds.max(rounds.unwrap_or(0));
     }
 
-    /// What came up in no call, of the refusals and of bounds that are not reached.
+    /// What came up in no call, of the refusals, bounds that are not reached and halves that go
+    /// down.
     fn missing(&self) -> Vec<String> {
         let mut missing: Vec<String> = (1..=Refusal::LAST)
             .filter(|&number| self.returned[number] == 0)
@@ -334,6 +344,9 @@ impl Tally {
             .collect();
         if self.not_reached == 0 {
             missing.push("accepted with a bound that is not reached".into());
+        }
+        if self.halves_down == 0 {
+            missing.push("accepted with a half that goes down".into());
         }
         missing
     }
@@ -349,11 +362,12 @@ impl fmt::Display for Tally {
             .collect();
         write!(
             out,
-            "{} calls, accepted {accepted} ({} of them with a bound that is not reached) with {} \
-             zones and {} stars (at most {} rounds, all within n + d), {}; {} stretches compared, \
-             {} calls passed over for time",
+            "{} calls, accepted {accepted} ({} of them with a bound that is not reached, {} with a \
+             half that goes down) with {} zones and {} stars (at most {} rounds, all within n + d), \
+             {}; {} stretches compared, {} calls passed over for time",
             self.calls,
             self.not_reached,
+            self.halves_down,
             self.zones,
             self.stars,
             self.most_rounds,
@@ -367,6 +381,7 @@ impl fmt::Display for Tally {
 #[cfg(test)]
 mod tests {
     use super::*;
+    use crate::recording::tick;
 
     #[test]
     fn a_short_campaign_agrees() {
@@ -377,5 +392,27 @@ mod tests {
         };
         let line = campaign.run().expect("agreement");
         assert!(line.starts_with("seed 1: "), "{line}");
+    }
+
+    /// Where a half goes down, halves up would give another tick; anywhere else the same.
+    #[test]
+    fn halves_go_down_where_rounding_up_differs() {
+        assert_eq!([5, 25, 105, 9_999_985].map(is_half_down), [true; 4]);
+        for ms in 0..1_000 {
+            let up = (ms + 5) / 10;
+            assert_eq!(is_half_down(ms), tick(ms) != up, "{ms}");
+        }
+    }
+
+    #[test]
+    fn a_campaign_without_a_half_that_goes_down_misses_it() {
+        let mut tally = Tally {
+            returned: [1; Refusal::LAST + 1],
+            not_reached: 1,
+            ..Tally::default()
+        };
+        assert_eq!(tally.missing(), ["accepted with a half that goes down"]);
+        tally.halves_down = 1;
+        assert!(tally.missing().is_empty());
     }
 }

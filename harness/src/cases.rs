@@ -203,6 +203,7 @@ pub fn all() -> Vec<Case> {
         limits(),
         bounds_not_reached(),
         bounds_refused(),
+        halves(),
     ];
     groups.into_iter().flatten().collect()
 }
@@ -579,6 +580,54 @@ fn bounds_refused() -> Vec<Case> {
     cases.push(Case::on_r("a{<2,5}").work(0).answer(0));
     cases.push(Case::on_r("a{<2,5}").answer(5));
     cases.push(Case::new(pulses(129), "a{<1,}"));
+    cases
+}
+
+/// Times and durations halfway between two ticks, and their neighbours. `_` shows the duration.
+fn halves() -> Vec<Case> {
+    let high = |duration, changes: &[_]| Case::new(recording(duration, 1, changes), "a|_");
+    let low = |duration, changes: &[_]| Case::new(recording(duration, 1, changes), "!a|_");
+    // With 24 and 25 ms, which `ticks` has, each half and what is beside it.
+    let mut cases: Vec<Case> = [4, 5, 6, 14, 15, 16, 26, 34, 35, 36]
+        .into_iter()
+        .map(|ms| high(100, &[(ms, 1)]))
+        .collect();
+    // Here d is 10, and a change from 95 ms on is on tick d.
+    for ms in [94, 95, 96, 101] {
+        cases.push(high(105, &[(ms, 1)]));
+        cases.push(low(105, &[(20, 1), (ms, 0)]));
+    }
+    let shared = recording(105, 2, &[(5, 1), (15, 3), (25, 2), (45, 0)]);
+    cases.extend([
+        // A half that goes down from d, and one that goes up to it.
+        high(106, &[(105, 1)]),
+        high(25, &[(15, 1)]),
+        // The shortest drives.
+        high(10, &[(5, 1)]),
+        high(10, &[(6, 1)]),
+        high(14, &[(5, 1)]),
+        low(15, &[]),
+        high(15, &[(5, 1)]),
+        high(15, &[(14, 1)]),
+        // The longest.
+        high(10_000_000, &[(9_999_985, 1)]),
+        high(10_000_000, &[(9_999_994, 1)]),
+        high(10_000_000, &[(9_999_995, 1)]),
+        high(9_999_995, &[(9_999_994, 1)]),
+        high(9_999_985, &[(9_999_984, 1)]),
+        // Changes on one tick, of which only the last stands.
+        high(100, &[(20, 1), (25, 0)]),
+        high(100, &[(0, 1), (5, 0)]),
+        high(100, &[(15, 1), (25, 0)]),
+        high(100, &[(35, 0), (40, 0), (45, 1)]),
+        // Changes on two ticks, which both stand.
+        high(100, &[(25, 1), (30, 0)]),
+        high(100, &[(5, 1), (10, 0)]),
+        high(100, &[(25, 1), (35, 0)]),
+        high(100, &[(34, 1), (35, 0)]),
+        // A half on either side of a cut.
+        Case::new(shared, "a.b|_"),
+    ]);
     cases
 }
 

@@ -240,8 +240,109 @@ mod tests {
     #[test]
     fn rounding_reaches_the_zones() {
         let at = |ms| recording(100, 1, &[(ms, 1)]);
-        assert!(sheet(&at(24), "a").contains("start [2,10) end (2,10] length (0,8]"));
-        assert!(sheet(&at(25), "a").contains("start [3,10) end (3,10] length (0,7]"));
+        let table = [
+            ([4, 5], "start [0,10) end (0,10] length (0,10]"),
+            ([6, 14], "start [1,10) end (1,10] length (0,9]"),
+            ([15, 16], "start [2,10) end (2,10] length (0,8]"),
+            ([24, 25], "start [2,10) end (2,10] length (0,8]"),
+            ([26, 34], "start [3,10) end (3,10] length (0,7]"),
+            ([35, 36], "start [4,10) end (4,10] length (0,6]"),
+        ];
+        for (times, zone) in table {
+            let expected = format!("zones 1 rounds 0\n{zone}\n");
+            for ms in times {
+                assert_eq!(sheet(&at(ms), "a"), expected, "{ms}");
+            }
+        }
+    }
+
+    /// The sheet of `a|_` where `a` is high in one run or never: the run, and the moments of the
+    /// drive up to its end d.
+    fn run_and_end(run: Option<(u32, u32)>, d: u32) -> String {
+        let moments = format!("start [0,{d}] end [0,{d}] length [0,0]\n");
+        let Some((s, e)) = run else {
+            return format!("zones 1 rounds 0\n{moments}");
+        };
+        let length = e - s;
+        let zone = format!("start [{s},{e}) end ({s},{e}] length (0,{length}]\n");
+        format!("zones 2 rounds 0\n{zone}{moments}")
+    }
+
+    /// `a` goes high once, at a half or beside one, in a drive that may end at a half.
+    #[test]
+    fn halves_in_times_and_durations() {
+        let (longest, last) = (10_000_000, 1_000_000);
+        for (duration, ms, run, d) in [
+            (104, 94, Some((9, 10)), 10),
+            (104, 95, None, 10),
+            (105, 94, Some((9, 10)), 10),
+            (105, 95, None, 10),
+            (105, 96, None, 10),
+            (105, 101, None, 10),
+            (106, 105, Some((10, 11)), 11),
+            (115, 114, Some((11, 12)), 12),
+            (25, 14, Some((1, 2)), 2),
+            (25, 15, None, 2),
+            (10, 5, Some((0, 1)), 1),
+            (10, 6, None, 1),
+            (14, 5, Some((0, 1)), 1),
+            (15, 5, Some((0, 2)), 2),
+            (15, 14, Some((1, 2)), 2),
+            (longest, 9_999_985, Some((999_998, last)), last),
+            (longest, 9_999_994, Some((999_999, last)), last),
+            (longest, 9_999_995, None, last),
+            (9_999_995, 9_999_994, Some((999_999, last)), last),
+            (9_999_985, 9_999_984, None, 999_998),
+        ] {
+            let rise = recording(duration, 1, &[(ms, 1)]);
+            let expected = run_and_end(run, d);
+            assert_eq!(sheet(&rise, "a|_"), expected, "{ms} of {duration}");
+        }
+        let fall = recording(105, 1, &[(20, 1), (95, 0)]);
+        assert_eq!(sheet(&fall, "a|_"), run_and_end(Some((2, 10)), 10));
+        // Nothing is left of `!a` behind the fall.
+        let before = "zones 1 rounds 0\nstart [0,2) end (0,2] length (0,2]\n";
+        assert_eq!(sheet(&fall, "!a"), before);
+    }
+
+    /// `a` is high from the first time to the second, and never where both are one tick.
+    #[test]
+    fn halves_share_a_tick_or_not() {
+        for (rise, fall, run) in [
+            (0, 5, None),
+            (20, 25, None),
+            (15, 25, None),
+            (95, 99, None),
+            (5, 10, Some((0, 1))),
+            (25, 30, Some((2, 3))),
+            (25, 35, Some((2, 4))),
+            (34, 35, Some((3, 4))),
+            (85, 95, Some((8, 10))),
+        ] {
+            let pulse = recording(100, 1, &[(rise, 1), (fall, 0)]);
+            let expected = run_and_end(run, 10);
+            assert_eq!(sheet(&pulse, "a|_"), expected, "{rise} to {fall}");
+        }
+    }
+
+    /// 15 and 25 ms are both tick 2, so `a` is high from 0 to 2 and `b` from 2 to 4: the cut of `a.b`
+    /// is 2, and that of `b.!b` is 4.
+    #[test]
+    fn halves_reach_the_cuts() {
+        let halves = recording(105, 2, &[(5, 1), (15, 3), (25, 2), (45, 0)]);
+        for (drill, zone) in [
+            ("a.b", "start [0,2) end (2,4] length (0,4]"),
+            ("b.!b", "start [2,4) end (4,10] length (0,8]"),
+            ("a.b.!b", "start [0,2) end (4,10] length (2,10]"),
+            (
+                "a{<1,}.b{2,}.!b{6,}",
+                "start [0,1) end [10,10] length (9,10]",
+            ),
+        ] {
+            let expected = format!("zones 1 rounds 0\n{zone}\n");
+            assert_eq!(sheet(&halves, drill), expected, "{drill}");
+        }
+        assert_eq!(sheet(&halves, "a&b"), "zones 0 rounds 0\n");
     }
 
     #[test]

@@ -52,7 +52,7 @@ fn small(rng: &mut Rng) -> Input {
 
 fn small_head(rng: &mut Rng) -> Head {
     Head {
-        duration: rng.between(10, 124),
+        duration: random::milliseconds(rng, 10, 125),
         channels: rng.between(1, 3) as u8,
     }
 }
@@ -102,7 +102,7 @@ fn lengthen(rng: &mut Rng, drill: &mut Vec<u8>) {
 fn large(rng: &mut Rng) -> Input {
     let scale = 10u32.pow(rng.between(3, 7));
     let head = Head {
-        duration: rng.between(scale / 10, scale),
+        duration: random::milliseconds(rng, scale / 10, scale),
         channels: rng.between(1, 16) as u8,
     };
     let changes = match rng.below(4) {
@@ -124,11 +124,7 @@ fn large(rng: &mut Rng) -> Input {
 
 /// A recording in which each change switches one channel.
 fn switching(rng: &mut Rng, head: Head, changes: usize) -> Vec<u8> {
-    let mut times: Vec<u32> = (0..changes)
-        .map(|_| rng.between(0, head.duration - 1))
-        .collect();
-    times.sort_unstable();
-    times.dedup();
+    let times = random::rising_times(rng, head.duration, changes);
     let mut levels = 0;
     let mut switched = |time| {
         levels ^= 1 << rng.below(head.channels.into());
@@ -355,7 +351,28 @@ fn damage(rng: &mut Rng, bytes: &mut Vec<u8>, alphabet: &[u8]) {
 #[cfg(test)]
 mod tests {
     use super::*;
+    use crate::recording::times;
     use crate::refusal::Refusal;
+
+    /// Halves are among durations and among changes, the lower tick even (5) or odd (15).
+    #[test]
+    fn halves_come_up_in_durations_and_in_changes() {
+        let mut rng = Rng::new(1, 5);
+        for kind in [small, pieces, large] {
+            let recordings: Vec<Vec<u8>> = (0..200).map(|_| kind(&mut rng).recording).collect();
+            for half in [5, 15] {
+                let is_half = |ms: u32| ms % 20 == half;
+                let in_duration = |bytes: &&Vec<u8>| times(bytes).take(1).any(is_half);
+                let in_changes = |bytes: &&Vec<u8>| times(bytes).skip(1).any(is_half);
+                let durations = recordings.iter().filter(in_duration).count();
+                let changes = recordings.iter().filter(in_changes).count();
+                assert!(
+                    durations > 15 && changes > 50,
+                    "{half} {durations} {changes}"
+                );
+            }
+        }
+    }
 
     /// Drills with a `<` are accepted and refused often enough, by 5 and by 7.
     #[test]

@@ -51,13 +51,31 @@ impl Rng {
     }
 }
 
-/// A sound recording with at most this many changes, at any milliseconds.
-pub fn recording(rng: &mut Rng, head: Head, changes: usize) -> Vec<u8> {
+/// Milliseconds from low to high, both included, more often than by chance halfway between two
+/// ticks.
+pub fn milliseconds(rng: &mut Rng, low: u32, high: u32) -> u32 {
+    let any = rng.between(low, high);
+    let half = any - any % 10 + 5;
+    if (low..=high).contains(&half) && rng.once_in(4) {
+        half
+    } else {
+        any
+    }
+}
+
+/// The times of at most this many changes, rising and below the duration.
+pub fn rising_times(rng: &mut Rng, duration: u32, changes: usize) -> Vec<u32> {
     let mut times: Vec<u32> = (0..changes)
-        .map(|_| rng.between(0, head.duration - 1))
+        .map(|_| milliseconds(rng, 0, duration - 1))
         .collect();
     times.sort_unstable();
     times.dedup();
+    times
+}
+
+/// A sound recording with at most this many changes, at any milliseconds.
+pub fn recording(rng: &mut Rng, head: Head, changes: usize) -> Vec<u8> {
+    let times = rising_times(rng, head.duration, changes);
     let known = ((1u32 << head.channels) - 1) as u16;
     let changes: Vec<Change> = times
         .into_iter()

@@ -18,9 +18,14 @@ pub const DURATIONS: std::ops::RangeInclusive<u32> = 10..=10_000_000;
 const HEAD_MARK: [u8; 2] = [0x44, 0x52];
 const CHANGE_MARK: [u8; 2] = [0x43, 0x48];
 
-/// The tick of a time in milliseconds, to the nearest, halves up.
+/// The tick of a time in milliseconds: the nearest, and halfway between two ticks the even one.
+///
+/// Where the tick below is odd, 5 ms more take a half to the one above; where it is even, 4 ms more
+/// leave it there. Any other time goes to the nearest with either. There is no branch, as every
+/// walk over the changes comes through here.
 pub fn tick(ms: u32) -> u32 {
-    (ms + 5) / 10
+    let odd_below = ms / 10 % 2;
+    (ms + 4 + odd_below) / 10
 }
 
 /// The fields of a head record.
@@ -77,8 +82,14 @@ impl Change {
     }
 }
 
+/// The duration of a head, the time of a change: both stand in the same place.
 fn four_bytes(record: &[u8]) -> u32 {
     u32::from_le_bytes([record[2], record[3], record[4], record[5]])
+}
+
+/// The times in the bytes of a recording, in milliseconds: its duration, then that of each change.
+pub fn times(bytes: &[u8]) -> impl Iterator<Item = u32> + '_ {
+    bytes.chunks_exact(RECORD).map(four_bytes)
 }
 
 /// The bytes of a recording, right or wrong.
@@ -352,9 +363,26 @@ mod tests {
     }
 
     #[test]
-    fn ticks_round_to_the_nearest_and_halves_up() {
-        assert_eq!((tick(24), tick(25), tick(34), tick(35)), (2, 3, 3, 4));
+    fn halves_go_to_the_even_tick() {
+        assert_eq!([5, 15, 25, 35].map(tick), [0, 2, 2, 4]);
+        assert_eq!([0, 4, 14, 24, 34].map(tick), [0, 0, 1, 2, 3]);
+        assert_eq!([6, 16, 26, 36].map(tick), [1, 2, 3, 4]);
+        assert_eq!([95, 105, 115].map(tick), [10, 10, 12]);
+        assert_eq!([9_999_985, 9_999_995].map(tick), [999_998, 1_000_000]);
         assert_eq!(tick(10_000_000), 1_000_000);
+    }
+
+    /// A tick within 5 ms of a time is the nearest. Halfway between two ticks both are that near,
+    /// and one of them is even.
+    #[test]
+    fn every_time_goes_to_the_nearest_tick_and_halves_to_an_even_one() {
+        for ms in 0..=*DURATIONS.end() {
+            let tick = tick(ms);
+            assert!(ms.abs_diff(10 * tick) <= 5, "{ms} ms is no tick {tick}");
+            if ms % 10 == 5 {
+                assert!(tick.is_multiple_of(2), "{ms} ms is tick {tick}");
+            }
+        }
     }
 
     #[test]
@@ -367,12 +395,46 @@ mod tests {
         assert_eq!(read.levels(), [0; 10]);
     }
 
+    /// An even tick has the halves on both its sides, an odd one neither.
+    #[test]
+    fn an_even_tick_takes_eleven_milliseconds_and_an_odd_one_nine() {
+        let blip = |from: u32, to: u32| {
+            let bytes = recording(100, 1, &[(from, 1), (to, 0)]);
+            runs(&bytes, 0, true)
+        };
+        assert_eq!(blip(15, 25), []);
+        assert_eq!(blip(14, 25), [(1, 2)]);
+        assert_eq!(blip(15, 26), [(2, 3)]);
+        assert_eq!(blip(26, 34), []);
+        assert_eq!(blip(25, 34), [(2, 3)]);
+        assert_eq!(blip(26, 35), [(3, 4)]);
+        assert_eq!(blip(25, 35), [(2, 4)]);
+        assert_eq!(blip(0, 5), []);
+        assert_eq!(blip(5, 6), [(0, 1)]);
+    }
+
     #[test]
     fn a_change_on_tick_d_has_no_effect() {
         let late = recording(104, 1, &[(20, 1), (96, 0)]);
         assert_eq!(runs(&late, 0, true), [(2, 10)]);
         let rise = recording(104, 1, &[(97, 1)]);
         assert_eq!(runs(&rise, 0, true), []);
+    }
+
+    /// Of a drive of 105 ms, d is 10, and every change from 95 ms on is on tick d.
+    #[test]
+    fn the_duration_is_rounded_as_a_time_is() {
+        for (duration, ticks) in [(10, 1), (14, 1), (15, 2), (25, 2), (26, 3), (105, 10)] {
+            let bytes = recording(duration, 1, &[]);
+            let read = Recording::read(&bytes).unwrap();
+            assert_eq!(read.ticks(), ticks, "{duration}");
+            assert_eq!(read.levels().len(), ticks as usize);
+        }
+        let rise = |ms: u32| runs(&recording(105, 1, &[(ms, 1)]), 0, true);
+        assert_eq!(rise(94), [(9, 10)]);
+        for ms in [95, 96, 100, 101, 104] {
+            assert_eq!(rise(ms), [], "{ms}");
+        }
     }
 
     #[test]

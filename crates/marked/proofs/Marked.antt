@@ -119,4 +119,6 @@ marked-set x =
     ⨾ gives refl refl refl
     ⨾ refl
     ⨾ refl
+    ⨾ refl
+    ⨾ refl
     ⨾ done)

@@ -83,7 +83,9 @@ marked =
     ∷ drill "a&!a" number 0 rounds 0 zones []
     ∷ drill "_" number 0 rounds 0 zones (start ⟦ 0 ‥ 10 ⟧ end ⟦ 0 ‥ 10 ⟧ length ⟦ 0 ‥ 0 ⟧ ∷ [])
     ∷ 24 ms-is-tick 2
-    ∷ 25 ms-is-tick 3
+    ∷ 25 ms-is-tick 2
+    ∷ 5 ms-is-tick 0
+    ∷ 15 ms-is-tick 2
     ∷ []
 
 -- ---- what a row says

@@ -1,6 +1,6 @@
 -- The bytes of a recording: its records, what makes one wrong, and what reading answers.
 use mathlib.Core.Path.{_≡_}
-use mathlib.Core.Bool.{Bool, true, _&&_}
+use mathlib.Core.Bool.{Bool, true, cond, _&&_}
 use mathlib.Core.List.{List, [], _∷_}
 use Prim.Native.Nat.{ℕ, _+_, _-_, _*_, _/_, _%_, _^_, _≤_, _<_}
 use lib.Dec.{eqb}
@@ -9,9 +9,13 @@ use Rattle.recording.specs.declared.Dimensions.{Dimensions}
 use Rattle.recording.specs.declared.Reading.{Reading}
 use Rattle.recording.specs.declared.Reading.the-variants.{WrongLength, WrongHead, WrongChange, Recorded}
 
--- a tick is 10 ms: a time of m ms is tick (m + 5) divided by 10, rounded down
+-- of tick n and the next one, the even one
+abbrev pub evenOf : ℕ → ℕ
+evenOf n = n + n % 2
+
+-- a tick is 10 ms. A time of m ms that is "exactly halfway between two ticks .. goes to the even one"; "all others go to the nearest"
 unfoldable pub tick : ℕ → ℕ
-tick m = (m + 5) / 10
+tick m = cond (eqb (m % 10) 5) (evenOf (m / 10)) ((m + 5) / 10)
 
 -- the byte at a place, 0 past the end
 abbrev pub byteAt : List ℕ → ℕ → ℕ

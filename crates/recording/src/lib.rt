@@ -7,7 +7,7 @@ ghost use mathlib.Core.Bool.{_&&_, _||_};
 ghost use Prim.Native.Nat.{_+_, _-_, _*_, _^_, _≤_, _<_};
 ghost use lib.Dec.{leb, ltb};
 ghost use lib.ListN.{length};
-ghost use Rattle.recording.specs.Reading.{tick as tickOf, byteAt, le16 as le16At, le32 as le32At, hasMark, duration as durationOf, channels as channelsOf, time as timeOf, levels as levelsOf, IsRecording, ReadingAs};
+ghost use Rattle.recording.specs.Reading.{evenOf, tick as tickOf, byteAt, le16 as le16At, le32 as le32At, hasMark, duration as durationOf, channels as channelsOf, time as timeOf, levels as levelsOf, IsRecording, ReadingAs};
 ghost use Rattle.recording.specs.Changes.{begins as beginsAt};
 ghost use Rattle.recording.specs.Tests.{sized as sizedBy, headed as headedBy, changed as changedBy, allChanged};
 
@@ -55,11 +55,22 @@ fn le32(bytes: &[u8], at: usize) -> u32
     le16(bytes, at) + 65536 * le16(bytes, at + 2)
 }
 
-// The tick of a time in milliseconds.
+// Of tick n and the next one, the even one.
+fn even_of(n: u32) -> u32
+    requires { ⌜ n ≤ 1000000 ⌝ }
+    ensures { λ r. ⌜ r ≡ evenOf n ⌝ }
+{
+    n + n % 2
+}
+
+// The tick of a time in milliseconds. A time halfway between two ticks goes to the even one.
 fn tick(m: u32) -> u32
     requires { ⌜ m ≤ 10000000 ⌝ }
     ensures { λ r. ⌜ r ≡ tickOf m ⌝ }
 {
+    if m % 10 == 5 {
+        return even_of(m / 10);
+    }
     (m + 5) / 10
 }
 

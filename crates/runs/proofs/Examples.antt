@@ -67,6 +67,16 @@ pub rounded-up : Example (head 95 ++ high 50) 10 (to 5 10 ∷ []) (to 0 5 ∷ []
 unfolding reading sized headed allChanged changed hasMark le32 le16 tick runsOf shown leavesAt levelIn
 rounded-up = computed _ 10 refl
 
+-- one that rounds down: 105 ms is 10 ticks, so that a change at 101 ms has no effect
+pub rounded-down : Example (head 105 ++ high 101) 10 [] (to 0 10 ∷ [])
+unfolding reading sized headed allChanged changed hasMark le32 le16 tick runsOf shown leavesAt levelIn
+rounded-down = computed _ 10 refl
+
+-- 20 and 25 ms are one tick, 25 and 30 ms are two
+pub one-tick-of-two : Example (head 100 ++ (high 20 ++ (low 25 ++ high 30))) 10 (to 3 10 ∷ []) (to 0 3 ∷ [])
+unfolding reading sized headed allChanged changed hasMark le32 le16 tick runsOf shown leavesAt levelIn
+one-tick-of-two = computed _ 10 refl
+
 -- no change at all: low throughout
 pub no-change : Example (head 100) 10 [] (to 0 10 ∷ [])
 unfolding reading sized headed allChanged changed hasMark le32 le16 tick runsOf shown leavesAt levelIn

@@ -116,7 +116,7 @@ fn seek(
 {
     let mut i = j;
     while i <= size.changes {
-        // Most changes are of other channels, and a tick takes a division.
+        // Most changes are of other channels, and a tick takes divisions.
         if leaves_at(bytes, channel, level, i) == wanted {
             if reaches(bytes, size, from, to, i) {
                 return i;
