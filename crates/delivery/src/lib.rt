@@ -2,7 +2,7 @@
 // the work buffer is cleared.
 //
 // specs/Working.antt has what `work_out` comes to, and specs/Buffers.antt what both buffers then hold.
-use evaluation::Window;
+use primaries::Window;
 use recording::Dimensions;
 use values::Evaluated;
 ghost use mathlib.Core.Path.{_≡_};

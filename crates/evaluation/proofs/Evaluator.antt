@@ -9,27 +9,24 @@ use lib.ListN.{length}
 use Rattle.zone.specs.declared.Zone.{Zone}
 use Rattle.list.specs.Slots.{slot-words, listAt, Kept, Sound, Source}
 use Rattle.list.proofs.Slots.{kept-within, listAt-kept}
-use Rattle.runs.specs.declared.Level.{Level}
 use Rattle.runs.specs.Levels.{Shows}
 use Rattle.expression.specs.declared.Node.{Node}
-use Rattle.expression.specs.declared.Sign.{Sign}
 use Rattle.expression.specs.declared.Join.{Join}
 use Rattle.expression.specs.declared.Unary.{Unary}
-use Rattle.expression.specs.Expression.{Expression, epsilon, literal, join, unary}
+use Rattle.expression.specs.Expression.{Expression, join, unary}
 use Rattle.expression.specs.Stored.{nodeAt}
 use Rattle.expression.specs.Planted.{Planted}
 use Rattle.expression.proofs.Laws.{Operands, operands}
-use Rattle.meaning.specs.Lists.{Value, overflow, ended, Then.goes, Then.stops, Both, Letter, joinList, applied, Evaluates}
-use Rattle.meaning.specs.Satisfies.{levelOf}
-use Rattle.evaluation.specs.Evaluating.{Looks}
+use Rattle.meaning.specs.Lists.{Value, overflow, ended, Then.goes, Then.stops, Both, joinList, applied, Evaluates}
+use Rattle.primaries.specs.Windows.{Looks}
 use Rattle.values.specs.Values.{Standing, EvaluatedAs, most-rounds, OperandAt, Came, Carried}
-use Rattle.evaluation.specs.declared.Window.{Window}
+use Rattle.primaries.specs.declared.Window.{Window}
 use Rattle.values.specs.declared.Evaluated.{Evaluated}
 use Rattle.values.specs.declared.Evaluated.the-variants.{Listed, Overflow}
 use Rattle.meaning.proofs.Evaluation.{evaluates-well}
 use Rattle.evaluation.proofs.Rounds.{rounds-few}
 use Rattle.values.proofs.Standings.{sound-within}
-use Rattle.evaluation.proofs.Windows.{looks-ticks}
+use Rattle.primaries.proofs.Windows.{looks-ticks}
 
 -- what node i says of its expression, as the code finds the node
 pub node-is : {ns : List ℕ} {channels i d : ℕ} {e : Expression} {n : Node} (t : Node) → n ≡ nodeAt ns i → n ≡ t → Planted ns channels i d e → Operands ns channels (d - 1) e t
@@ -117,13 +114,8 @@ module _ {bytes : List ℕ} {window : Window} (looks : Looks bytes window) where
 
   -- ---- no operand
 
-  pub point-done : {e : Expression} → e ≡ epsilon → (ws : List ℤ) (base : ℕ) (r : Evaluated) → EvaluatedAs (Comes epsilon) ws base r → EvaluatedAs (Comes e) ws base r
-  point-done is ws base r a = subst (λ (x : Expression). EvaluatedAs (Comes x) ws base r) (sym is) a
-
-  pub letter-done : {e : Expression} (s : Sign) (k : ℕ) → e ≡ literal s k → (ws : List ℤ) (base : ℕ) {level : Level} → level ≡ levelOf s → (r : Evaluated)
-      → EvaluatedAs (Letter (Shows bytes k level) (window .from) (window .to)) ws base r → EvaluatedAs (Comes e) ws base r
-  letter-done s k is ws base l r a =
-      subst (λ (x : Expression). EvaluatedAs (Comes x) ws base r) (sym is) (subst (λ (x : Level). EvaluatedAs (Letter (Shows bytes k x) (window .from) (window .to)) ws base r) l a)
+  pub leaf-done : {e f : Expression} → e ≡ f → (ws : List ℤ) (base : ℕ) (r : Evaluated) → EvaluatedAs (Comes f) ws base r → EvaluatedAs (Comes e) ws base r
+  leaf-done is ws base r a = subst (λ (x : Expression). EvaluatedAs (Comes x) ws base r) (sym is) a
 
   -- ---- an operator with one operand
 

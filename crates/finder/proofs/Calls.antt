@@ -18,7 +18,7 @@ use Rattle.runs.specs.Levels.{Shows}
 use Rattle.recording.proofs.Rounding.{tick-range}
 use Rattle.expression.specs.Expression.{Expression}
 use Rattle.expression.specs.Refusal.{Accepted, DrillCause, wrong-length, no-form, wrong-letter, wrong-range, too-deep}
-use Rattle.parser.proofs.Complete.{unique}
+use Rattle.descent.proofs.Complete.{unique}
 use Rattle.parser.proofs.Parses.{answered}
 use Rattle.meaning.specs.Lists.{value, overflow, Value, repeated, RoundsOf, Sum}
 use Rattle.finder.specs.Causes.{CallAs.refused, CallAs.accepted}

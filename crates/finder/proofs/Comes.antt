@@ -6,7 +6,7 @@ use Rattle.recording.specs.Reading.{ticks}
 use Rattle.runs.specs.Levels.{Shows}
 use Rattle.runs.proofs.Handed.{shows-runs, shows-held}
 use Rattle.expression.specs.Expression.{Expression}
-use Rattle.parser.proofs.Complete.{unique}
+use Rattle.descent.proofs.Complete.{unique}
 use Rattle.meaning.specs.Lists.{Value, Evaluates}
 use Rattle.meaning.proofs.Evaluation.{FiniteVariability, evaluates-unique}
 use Rattle.finder.specs.Outcome.{Finished, Comes, Finishes}

@@ -24,10 +24,10 @@ use Rattle.runs.proofs.Examples.{R as example}
 use Rattle.expression.specs.Expression.{Expression, depth}
 use Rattle.expression.specs.Refusal.{Accepted}
 use Rattle.tokens.specs.Tokens.{yes, branch, bind, starts, rest, expect, ranged, digits, numeral, numbered, bound, upperEnd, limits}
-use Rattle.parser.specs.Descent.{postfixes, joining, read, height, descent}
+use Rattle.descent.specs.Descent.{postfixes, joining, read, height, descent}
 use Rattle.expression.specs.declared.Join.the-variants.{Union as bars}
 use Rattle.parser.specs.Readers.{width, wrong}
-use Rattle.parser.proofs.Complete.{whole-sound}
+use Rattle.descent.proofs.Complete.{whole-sound}
 use Rattle.parser.proofs.Parses.{right-length, accepted}
 use Rattle.meaning.specs.Lists.{value, ended, Then.goes, runZones, Letter, Evaluates}
 use Rattle.outcome.specs.declared.Outcome.the-variants.{Finished}

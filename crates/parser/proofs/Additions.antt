@@ -17,10 +17,10 @@ use Rattle.expression.specs.declared.Unary.{Unary}
 use Rattle.expression.specs.Expression.{Expression, epsilon, literal, join, unary, depth}
 use Rattle.expression.specs.Stored.{nodeAt, Stored, stored-epsilon, stored-literal, stored-join, stored-unary, FrontKept, Placed}
 use Rattle.tokens.specs.Tokens.{Got, no, yes, branch, bind, starts, expect, postfix, lettered, cappedUnary, Got-at, Letter-at}
-use Rattle.parser.specs.Descent.{symbol, Rank, joining, repeating, single, below, descent}
+use Rattle.descent.specs.Descent.{symbol, Rank, joining, repeating, single, below, descent}
 use Rattle.parser.specs.Readers.{capped, wrongUnary, width, wrong, over, beside, around, nothing, Reached, ReadAs, ClosedAs}
 use Rattle.tokens.proofs.Text.{rest-drop}
-use Rattle.parser.proofs.Steps.{joinsAfter, postfixesAfter, joining-is, repeating-is, single-is, joins-on, joins-off, postfixes-on, postfixes-off}
+use Rattle.descent.proofs.Steps.{joinsAfter, postfixesAfter, joining-is, repeating-is, single-is, joins-on, joins-off, postfixes-on, postfixes-off}
 use Rattle.expression.proofs.Nodes.{kept-refl, kept-trans, stored-keep}
 
 -- a node at the free place, over what `under` sums up

@@ -17,10 +17,10 @@ use Rattle.expression.specs.Refusal.{DrillCause, wrong-length, no-form, wrong-l
 use Rattle.expression.specs.Stored.{Stored}
 use Rattle.parser.specs.Parsing.{ParsedAs}
 use Rattle.tokens.specs.Tokens.{Got, no, yes}
-use Rattle.parser.specs.Descent.{joining, descent}
+use Rattle.descent.specs.Descent.{joining, descent}
 use Rattle.parser.specs.Readers.{width, wrong, Reached, verdict}
 use Rattle.tokens.proofs.Text.{no-yes, yes-text}
-use Rattle.parser.proofs.Complete.{whole-sound, whole-complete, unique}
+use Rattle.descent.proofs.Complete.{whole-sound, whole-complete, unique}
 use Rattle.parser.proofs.Checks.{letter-below, letter-beyond, range-wrong, range-right, capped-same}
 
 -- the cause of length holds

@@ -1,3 +1,2 @@
 pub mod Parsing
-pub mod Descent
 pub mod Readers

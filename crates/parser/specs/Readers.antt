@@ -21,7 +21,7 @@ use Rattle.expression.specs.Expression.{Expression, epsilon, literal, join, una
 use Rattle.expression.specs.Refusal.{figure}
 use Rattle.expression.specs.Stored.{Stored, FrontKept}
 use Rattle.tokens.specs.Tokens.{Got, no, yes, starts, cappedUnary}
-use Rattle.parser.specs.Descent.{Rank, descent}
+use Rattle.descent.specs.Descent.{Rank, descent}
 
 -- an expression as it is stored: all numbers above 1,000,000 alike
 unfoldable pub capped : Expression → Expression

@@ -16,7 +16,7 @@ ghost use lib.ListN.{length};
 ghost use Rattle.expression.specs.declared.Join.the-variants.{Union, Intersection, Concatenation};
 ghost use Rattle.expression.specs.Stored.{Placed};
 ghost use Rattle.parser.specs.Parsing.{ParsedAs};
-ghost use Rattle.parser.specs.Descent.{symbol as symbolOf, joining, repeating, single, below};
+ghost use Rattle.descent.specs.Descent.{symbol as symbolOf, joining, repeating, single, below};
 ghost use Rattle.parser.specs.Readers.{wrongUnary, over, beside, around, nothing, ClosedAs, Ready, ReadAs, verdict};
 
 // The root of the tree, or the refusal.

@@ -1,16 +1,17 @@
 -- Maximal runs, of anything that holds in some ticks: two of them never touch; a list of all of them in rising time is the only one, and
 -- it grows run by run as they are found one after the other.
-use mathlib.Core.Path.{_≡_, refl, sym, ap₂, subst, _∙_}
+use mathlib.Core.Path.{_≡_, refl, sym, subst}
 use mathlib.Core.Bool.{Bool, true, false, cond}
-use mathlib.Core.List.{List, [], _∷_, _++_, append-assoc, append-nil, List·Memᴰ, List·Memᴰ·head, List·Memᴰ·tail, List·Memᴰ·cases-cons, List·Memᴰ·append-cases, List·Memᴰ·eq-of-singleton, List·Memᴰ·not-nil, Memᴰ·append-left, Memᴰ·append-right}
+use mathlib.Core.List.{List, [], _∷_, _++_, append-assoc, append-nil, List·Memᴰ, List·Memᴰ·head, List·Memᴰ·append-cases, List·Memᴰ·eq-of-singleton, List·Memᴰ·not-nil, Memᴰ·append-left, Memᴰ·append-right}
 use mathlib.Core.Logic.{_↔_, ⊎-elim}
 use Prim.Native.Nat.{ℕ, zero, suc, _+_, _-_, pred, _≤_, _<_}
 use native.Mathlib.Decide.{decLe, ℕ-discrete}
 use native.Mathlib.Omega.{arith}
 use borrow.Author.Tests.{ltb-true, ltb-false}
 use lib.Dec.{ltb}
-use Rattle.runs.specs.Runs.{Maximal, Rising, none, next, Runs, FirstRun}
+use Rattle.runs.specs.Runs.{Maximal, Rising, none, Runs, FirstRun}
 use Rattle.runs.specs.declared.Run.{Run}
+use Rattle.runs.proofs.Rising.{rising-last, first-of, same-members}
 
 run : ℕ → ℕ → Run
 run s e = record { start = s; end = e }
@@ -32,16 +33,10 @@ pub record Scanned (P : ℕ → Type 0) (from to at : ℕ) (xs : List Run) : Typ
   pub each : (x : Run) → List·Memᴰ x xs → Maximal P from to (x .start) (x .end)
   pub before : (x : Run) → List·Memᴰ x xs → x .end ≤ at
   pub all : (x : Run) → Maximal P from to (x .start) (x .end) → x .start < at → List·Memᴰ x xs
-  pub rising : Rising xs
+  pub rising : Rising (λ (x : Run). x .start) xs
   pub covers : (k : ℕ) → from ≤ k → k < at → P k → Held xs k
   pub lower : from ≤ at
   pub cut : (k : ℕ) → from ≤ k → suc k ≡ at → at < to → P k → P at → ⊥
-
-rising-last : (xs : List Run) (x : Run) → ((y : Run) → List·Memᴰ y xs → y .start < x .start) → Rising xs → Rising (xs ++ (x ∷ []))
-rising-last [] x h r = next (λ y m. absurd (List·Memᴰ·not-nil m)) none
-rising-last (z ∷ xs) x h (next a r) =
-    next (λ y m. ⊎-elim (a y) (λ q. let e : y ≡ x = List·Memᴰ·eq-of-singleton q in rw e (h z (List·Memᴰ·head refl))) (List·Memᴰ·append-cases xs m))
-    (rising-last xs x (λ y m. h y (List·Memᴰ·tail m)) r)
 
 module _ {P : ℕ → Type 0} {from to : ℕ} where
   -- of two maximal runs the earlier one ends before the later one starts: they do not touch
@@ -156,36 +151,16 @@ module _ {P : ℕ → Type 0} {from to : ℕ} where
 
 -- THERE IS ONE SUCH LIST
 
-same-members : (xs ys : List Run) → Rising xs → Rising ys → ((x : Run) → List·Memᴰ x xs → List·Memᴰ x ys)
-    → ((x : Run) → List·Memᴰ x ys → List·Memᴰ x xs) → xs ≡ ys
-same-members [] [] r q f g = refl
-same-members [] (y ∷ ys) r q f g = absurd (List·Memᴰ·not-nil (g y (List·Memᴰ·head refl)))
-same-members (x ∷ xs) [] r q f g = absurd (List·Memᴰ·not-nil (f x (List·Memᴰ·head refl)))
-same-members (x ∷ xs) (y ∷ ys) (next a r) (next b q) f g =
-    ap₂ _∷_ heads
-    (same-members xs ys r q
-    (λ z m. ⊎-elim (λ (e : z ≡ y). absurd (off z m (e ∙ sym heads) (a z m))) (λ w. w) (List·Memᴰ·cases-cons (f z (List·Memᴰ·tail m))))
-    (λ z m. ⊎-elim (λ (e : z ≡ x). absurd (off′ z m (e ∙ heads) (b z m))) (λ w. w) (List·Memᴰ·cases-cons (g z (List·Memᴰ·tail m)))))
-  where
-    heads : x ≡ y
-    heads =
-        ⊎-elim (λ e. e)
-        (λ m. ⊎-elim (λ e. sym e) (λ n. absurd (crossed (a y n) (b x m))) (List·Memᴰ·cases-cons (g y (List·Memᴰ·head refl))))
-        (List·Memᴰ·cases-cons (f x (List·Memᴰ·head refl)))
-      where
-        crossed : x .start < y .start → y .start < x .start → ⊥
-        crossed h k = omega arith
-
-    off : (z : Run) → List·Memᴰ z xs → z ≡ x → x .start < z .start → ⊥
-    off z m e h = let k : x .start < x .start = subst (λ (w : Run). x .start < w .start) e h in omega arith
-
-    off′ : (z : Run) → List·Memᴰ z ys → z ≡ y → y .start < z .start → ⊥
-    off′ z m e h = let k : y .start < y .start = subst (λ (w : Run). y .start < w .start) e h in omega arith
-
 -- the maximal runs in rising time are one list
 pub runs-unique : {P : ℕ → Type 0} {from to : ℕ} {xs ys : List Run} → Runs P from to xs → Runs P from to ys → xs ≡ ys
 runs-unique {xs = xs} {ys = ys} a b =
     same-members xs ys (a .rising) (b .rising) (λ x m. b .all x (a .each x m)) (λ x m. a .all x (b .each x m))
+
+-- runs found up to some tick are the first of all
+pub scanned-first : {P : ℕ → Type 0} {from to at : ℕ} {xs ys : List Run} → Scanned P from to at xs → Runs P from to ys → (zs : List Run) × (ys ≡ xs ++ zs)
+scanned-first {xs = xs} {ys = ys} s r =
+    first-of xs ys (s .rising) (r .rising) (λ x m. r .all x (s .each x m))
+    (λ y x m n h. s .all y (r .each y m) (let a = s .each x n .some in let b = s .before x n in omega arith))
 
 -- THE LIST, COMPUTED FROM A TEST
 

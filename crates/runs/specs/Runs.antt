@@ -13,16 +13,16 @@ pub record Maximal (P : ℕ → Type 0) (from to s e : ℕ) : Type 0 where
   pub left : (k : ℕ) → from ≤ k → suc k ≡ s → P k → ⊥
   pub right : e < to → P e → ⊥
 
--- in rising time: each run starts before all that come after it
-pub data Rising : List Run → Type 0 where
-  none : Rising []
-  next : {x : Run} {xs : List Run} → ((y : Run) → List·Memᴰ y xs → x .start < y .start) → Rising xs → Rising (x ∷ xs)
+-- in rising time: each comes before all that stand after it
+pub data Rising {A : Type 0} (time : A → ℕ) : List A → Type 0 where
+  none : Rising time []
+  next : {x : A} {xs : List A} → ((y : A) → List·Memᴰ y xs → time x < time y) → Rising time xs → Rising time (x ∷ xs)
 
 -- the maximal runs of P within from..to, in rising time
 pub record Runs (P : ℕ → Type 0) (from to : ℕ) (xs : List Run) : Type 0 where
   pub each : (x : Run) → List·Memᴰ x xs → Maximal P from to (x .start) (x .end)
   pub all : (x : Run) → Maximal P from to (x .start) (x .end) → List·Memᴰ x xs
-  pub rising : Rising xs
+  pub rising : Rising (λ (x : Run). x .start) xs
 
 -- s to e are the first ticks from tick `at` on, and before `to`, at which P holds
 pub record FirstRun (P : ℕ → Type 0) (at to s e : ℕ) : Type 0 where

@@ -1,7 +1,7 @@
 -- `work_out` meets its contract: the list that the evaluator left in the work buffer is delivered, and what it wrote is cleared.
 use native.Mathlib.Omega.{arith}
 use borrow.Author.Needs.{needs}
-use Rattle.evaluation.proofs.Windows.{looks-whole}
+use Rattle.primaries.proofs.Windows.{looks-whole}
 use Rattle.delivery.proofs.Working.{in-front, worked}
 use Rattle.delivery.proofs.work_out.Statement.{statement}
 use Rattle.delivery.proofs.work_out.Tie as tie

@@ -4,8 +4,8 @@ use native.Mathlib.Omega.{arith}
 use borrow.Author.Needs.{needs}
 use Rattle.list.proofs.Slots.{kept-trans}
 use Rattle.expression.proofs.Laws.{planted-some}
-use Rattle.evaluation.proofs.Windows.{looks-ticks, few-channels}
-use Rattle.evaluation.proofs.Evaluator.{node-is, roomy, rest-falls, rest-few, room-left, room-right, room-three, room-second, kept-left, kept-right, kept-three, kept-one, operand-rounds, came-only, came-right, left-operand, point-done, letter-done, one-done, two-over-left, two-done}
+use Rattle.primaries.proofs.Windows.{looks-ticks, few-channels}
+use Rattle.evaluation.proofs.Evaluator.{node-is, roomy, rest-falls, rest-few, room-left, room-right, room-three, room-second, kept-left, kept-right, kept-three, kept-one, operand-rounds, came-only, came-right, left-operand, leaf-done, one-done, two-over-left, two-done}
 use Prim.Native.Nat.{ℕ, _<_}
 use borrow.Fn.Kinds.{In}
 use borrow.Fn.PlainCycle.{Measures, is, falls, and}
@@ -15,9 +15,8 @@ use Rattle.evaluation.proofs.+evaluate.Lts-evaluate as evaluate-lts
 use Rattle.expression.proofs.node_at.Reads as node-at-reads
 use Rattle.values.proofs.apply.Reads as apply-reads
 use Rattle.values.proofs.combine.Reads as combine-reads
-use Rattle.evaluation.proofs.letter.Reads as letter-reads
-use Rattle.evaluation.proofs.point.Reads as point-reads
-use Rattle.evaluation.proofs.level_of.Reads as level-of-reads
+use Rattle.primaries.proofs.literal.Reads as literal-reads
+use Rattle.primaries.proofs.point.Reads as point-reads
 use Rattle.evaluation.proofs.+evaluate.{statement}
 use Rattle.evaluation.proofs.+evaluate.Tie.{close}
 
@@ -36,10 +35,8 @@ pub +evaluate-spec : {M : Type 1} → statement M
   node-at-reads.Learnt,
   point-reads.Asked,
   point-reads.Learnt,
-  level-of-reads.Asked,
-  level-of-reads.Learnt,
-  letter-reads.Asked,
-  letter-reads.Learnt,
+  literal-reads.Asked,
+  literal-reads.Learnt,
   evaluate-below t,
   evaluate.Post,
   apply-reads.Asked,
@@ -57,13 +54,12 @@ pub +evaluate-spec : {M : Type 1} → statement M
     (λ c κs. let o = c .before .before .before .before .before .before in
     (looks-ticks (o .pre .1 .0), omega (arith, o .pre .1 .3)))
     (λ c. search needs)
-    (λ c κs. search needs)
-    -- cast-letter
-    (λ c. let m = c .before .before in
-    let o = c .before .before .before .before .before .before .before in
+    -- cast-literal
+    (λ c. let m = c .before in
+    let o = c .before .before .before .before .before .before in
     omega (arith, node-is _ (m .before .before .node-at .ensures) (m .sign .given .1) (o .pre .1 .1 .planted) .1, few-channels (o .pre .1 .0)))
-    -- letter-requires
-    (λ c κs. let o = c .before .before .before .before .before .before .before .before in
+    -- literal-requires
+    (λ c κs. let o = c .before .before .before .before .before .before .before in
     (o .pre .1 .0, omega (arith, o .pre .1 .3)))
     (λ c. search needs)
     -- evaluate-requires
@@ -116,13 +112,13 @@ pub +evaluate-spec : {M : Type 1} → statement M
     (λ c. c .before .point .ensures .1 .same-length)
     -- returns-2
     (λ c. let o = c .before .before .before .before .before .before .before .before in
-    (λ e p. point-done (o .pre .1 .0) (node-is _ (c .before .before .before .before .before .node-at .ensures) (c .before .before .before .enum-told .given .1) p) _ _ (c .before .point .result) (c .before .point .ensures .0), kept-one (planted-some (o .pre .1 .1 .planted)) _ (c .before .point .ensures .1)))
+    (λ e p. leaf-done (o .pre .1 .0) (node-is _ (c .before .before .before .before .before .node-at .ensures) (c .before .before .before .enum-told .given .1) p) _ _ (c .before .point .result) (c .before .point .ensures .0), kept-one (planted-some (o .pre .1 .1 .planted)) _ (c .before .point .ensures .1)))
     -- same-length-3
-    (λ c. c .before .letter .ensures .1 .same-length)
+    (λ c. c .before .literal .ensures .1 .same-length)
     -- returns-3
-    (λ c. let m = c .before .before .before .before .before in
-    let o = c .before .before .before .before .before .before .before .before .before .before in
-    (λ e p. letter-done (o .pre .1 .0) (m .sign .given .0 .0) (m .sign .given .0 .1 .0) (node-is _ (m .before .before .node-at .ensures) (m .sign .given .1) p .0) _ _ (c .before .before .before .level-of .ensures) (c .before .letter .result) (c .before .letter .ensures .0), kept-one (planted-some (o .pre .1 .1 .planted)) _ (c .before .letter .ensures .1)))
+    (λ c. let m = c .before .before .before .before in
+    let o = c .before .before .before .before .before .before .before .before .before in
+    (λ e p. leaf-done (o .pre .1 .0) (node-is _ (m .before .before .node-at .ensures) (m .sign .given .1) p .0) _ _ (c .before .literal .result) (c .before .literal .ensures .0), kept-one (planted-some (o .pre .1 .1 .planted)) _ (c .before .literal .ensures .1)))
     -- same-length-4
     (λ c. c .before .apply .ensures .1 .same-length ∙ c .before .before .before .before .evaluate .ensures .1 .same-length)
     -- returns-4

@@ -8,9 +8,9 @@ use lib.ListN.{length}
 use borrow.Author.Needs.{needs}
 use Rattle.expression.specs.declared.Join.{Join}
 use Rattle.expression.specs.declared.Join.the-variants.{Union, Intersection, Concatenation}
-use Rattle.parser.specs.Descent.{joining, repeating}
+use Rattle.descent.specs.Descent.{joining, repeating}
 use Rattle.parser.specs.Readers.{wrongUnary, Reached}
-use Rattle.parser.proofs.Steps.{joinsAfter, postfixesAfter}
+use Rattle.descent.proofs.Steps.{joinsAfter, postfixesAfter}
 use Rattle.parser.proofs.Checks.{capped-wrong-unary}
 use Rattle.parser.proofs.Additions.{
   joins-begin,

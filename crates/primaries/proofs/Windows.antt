@@ -5,8 +5,8 @@ use native.Mathlib.Omega.{arith}
 use Rattle.recording.specs.declared.Dimensions.{Dimensions}
 use Rattle.recording.specs.Reading.{IsRecording}
 use Rattle.recording.proofs.Refusals.{read-ticks, read-end, read-numbers, read-headed}
-use Rattle.evaluation.specs.declared.Window.{Window}
-use Rattle.evaluation.specs.Evaluating.{Looks}
+use Rattle.primaries.specs.declared.Window.{Window}
+use Rattle.primaries.specs.Windows.{Looks}
 use Rattle.values.specs.Values.{Ticks}
 
 -- ticks 0 to d

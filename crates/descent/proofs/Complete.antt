@@ -31,10 +31,10 @@ use Rattle.expression.specs.Grammar.{
   brackets,
 }
 use Rattle.tokens.specs.Tokens.{Got, no, yes, branch, bind, starts, rest, expect, postfix}
-use Rattle.parser.specs.Descent.{symbol, Rank, joining, repeating, single, below, descent}
+use Rattle.descent.specs.Descent.{symbol, Rank, joining, repeating, single, below, descent}
 use Rattle.tokens.proofs.Text.{yes-value}
-use Rattle.parser.proofs.Sound.{sound}
-use Rattle.parser.proofs.Steps.{joinsAfter, postfixesAfter, joining-is, repeating-is, single-is, joins-on, joins-off, postfixes-on, postfixes-off}
+use Rattle.descent.proofs.Sound.{sound}
+use Rattle.descent.proofs.Steps.{joinsAfter, postfixesAfter, joining-is, repeating-is, single-is, joins-on, joins-off, postfixes-on, postfixes-off}
 use Rattle.tokens.proofs.Grammar.{ranged-on, limits-complete}
 
 -- what comes after a text of a level stops the levels inside it

@@ -5,10 +5,10 @@ use native.Mathlib.Omega.{arith}
 use borrow.Author.Needs.{needs}
 use Rattle.list.proofs.Slots.{kept-trans}
 use Rattle.runs.specs.Scan.{position}
-use Rattle.evaluation.proofs.Letters.{Spelt, spelt-none, spelt-all, spelt-more, spelt-over, run-ranged}
-use Rattle.evaluation.proofs.Windows.{looks-ticks}
-use Rattle.evaluation.proofs.letter.Statement.{statement}
-use Rattle.evaluation.proofs.letter.Tie as tie
+use Rattle.primaries.proofs.Letters.{Spelt, spelt-none, spelt-all, spelt-more, spelt-over, run-ranged}
+use Rattle.primaries.proofs.Windows.{looks-ticks}
+use Rattle.primaries.proofs.letter.Statement.{statement}
+use Rattle.primaries.proofs.letter.Tie as tie
 
 abbrev Inv-loop : tie.InvT-loop
 Inv-loop bytes window channel level work₀ base cursor₀ count₀ work cursor count = Spelt bytes channel level (window .from) (window .to) cursor base work₀ work count

@@ -8,9 +8,9 @@ use Rattle.zone.specs.Zone.{diagonal}
 use Rattle.list.specs.Slots.{listAt}
 use Rattle.list.specs.declared.Inserted.the-variants.{Placed}
 use Rattle.values.proofs.Standings.{stands}
-use Rattle.evaluation.proofs.Puts.{first-placed, put-built, put-kept}
-use Rattle.evaluation.proofs.point.Statement.{statement}
-use Rattle.evaluation.proofs.point.Tie as tie
+use Rattle.primaries.proofs.Puts.{first-placed, put-built, put-kept}
+use Rattle.primaries.proofs.point.Statement.{statement}
+use Rattle.primaries.proofs.point.Tie as tie
 
 insert-requires : tie.Need-insert-requires
 insert-requires c κs = (record { few = omega arith; room = c .before .before .pre .1 }, rw (c .diagonal .ensures .0) (ranged-more (c .before .before .pre .0 .small) (ranged (proper-diagonal _ _ (c .before .before .pre .0 .forward)))))

@@ -35,7 +35,7 @@ use Rattle.expression.specs.Grammar.{
 use Rattle.tokens.specs.Tokens.{yes, bind, rest, ranged, postfix, lettered, Got, no}
 use Rattle.tokens.proofs.Text.{no-yes, yes-text, yes-value, bind-yes, branch-split, starts-is}
 use Rattle.tokens.proofs.Grammar.{expect-sound, ranged-sound, limits-sound}
-use Rattle.parser.specs.Descent.{postfixes, symbol, Rank, joining, repeating, single, below, read, joins, perhaps}
+use Rattle.descent.specs.Descent.{postfixes, symbol, Rank, joining, repeating, single, below, read, joins, perhaps}
 
 perhaps-split : {A B : Type 0} (g : Got A) (k : A → List ℕ → Got B) (h : Got B) {y : B} {r : List ℕ}
     → perhaps g k h ≡ yes y r → ((x : A) × (s : List ℕ) × (g ≡ yes x s) × (k x s ≡ yes y r)) ⊎ ((g ≡ no) × (h ≡ yes y r))

@@ -1,9 +1,9 @@
 -- `put` meets its contract: the three ways of an insertion.
 use borrow.Author.Needs.{needs}
 use Rattle.list.specs.declared.Inserted.the-variants.{Away, Placed, Overflow}
-use Rattle.evaluation.proofs.Puts.{put-built, put-kept}
-use Rattle.evaluation.proofs.put.Statement.{statement}
-use Rattle.evaluation.proofs.put.Tie as tie
+use Rattle.primaries.proofs.Puts.{put-built, put-kept}
+use Rattle.primaries.proofs.put.Statement.{statement}
+use Rattle.primaries.proofs.put.Tie as tie
 
 returns : tie.Need-returns
 returns c =

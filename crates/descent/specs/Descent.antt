@@ -1,5 +1,5 @@
--- For the private readers alone: recursive descent as a function, by which their contracts say which text they read.
--- No public contract cites it; `parse` answers by the grammar (Refusal, Parsing), and proofs/ shows that the two agree.
+-- Recursive descent as a function, by which the private readers of `parser` say in their contracts which text they read.
+-- No public contract cites it; `parse` answers by the grammar, and proofs/ shows that the two agree.
 use Prim.Native.Nat.{ℕ, zero, suc, _+_, _*_}
 use mathlib.Core.List.{List}
 use lib.ListN.{length}

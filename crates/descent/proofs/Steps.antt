@@ -11,8 +11,8 @@ use Rattle.expression.specs.declared.Unary.{Unary}
 use Rattle.expression.specs.Expression.{Expression, epsilon, join, unary}
 use Rattle.tokens.specs.Tokens.{Got, no, yes, branch, bind, starts, rest, expect, postfix, lettered}
 use Rattle.tokens.proofs.Text.{starts-shorter}
-use Rattle.parser.specs.Descent.{perhaps, postfixes, symbol, Rank, joining, repeating, single, below, read, joins, height, need, descent}
-use Rattle.parser.proofs.Sound.{shorter, postfix-shorter}
+use Rattle.descent.specs.Descent.{perhaps, postfixes, symbol, Rank, joining, repeating, single, below, read, joins, height, need, descent}
+use Rattle.descent.proofs.Sound.{shorter, postfix-shorter}
 
 -- how the reading goes on after the first operand of a join, and after a primary
 unfoldable pub joinsAfter : Join → Expression → List ℕ → Got Expression

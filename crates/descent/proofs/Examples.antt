@@ -14,9 +14,9 @@ use Rattle.expression.specs.declared.Unary.the-variants.{Star, Band}
 use Rattle.expression.specs.Expression.{Expression, epsilon, literal, join, unary}
 use Rattle.expression.specs.Grammar.{Form, alternative}
 use Rattle.tokens.specs.Tokens.{Got, no, yes, branch, bind, starts, rest, expect, ranged, digits, numeral, numbered, bound, upperEnd, limits}
-use Rattle.parser.specs.Descent.{postfixes, joining, read, height, descent}
+use Rattle.descent.specs.Descent.{postfixes, joining, read, height, descent}
 use Rattle.expression.proofs.Ranges.{false-true}
-use Rattle.parser.proofs.Complete.{whole-sound, whole-complete}
+use Rattle.descent.proofs.Complete.{whole-sound, whole-complete}
 
 abbrev bytes : String → List ℕ
 bytes []ₛ = []
