@@ -5,7 +5,7 @@ use mathlib.Core.List.{List}
 use Prim.Native.Nat.{ℕ, suc, _+_, _*_, _<_, _≤_}
 use native.Mathlib.Omega.{arith}
 use lib.ListN.{length, drop}
-use Rattle.parser.specs.declared.Tree.{Tree}
+use Rattle.trees.specs.declared.Tree.{Tree}
 use Rattle.parser.specs.declared.Read.{Read}
 use Rattle.parser.specs.declared.Read.the-variants.{Part, Stop}
 use Rattle.expression.specs.declared.Node.{Node}
@@ -18,7 +18,8 @@ use Rattle.expression.specs.Expression.{Expression, epsilon, literal, join, una
 use Rattle.expression.specs.Stored.{nodeAt, Stored, stored-epsilon, stored-literal, stored-join, stored-unary, FrontKept, Placed}
 use Rattle.tokens.specs.Tokens.{Got, no, yes, branch, bind, starts, expect, postfix, lettered, cappedUnary, Got-at, Letter-at}
 use Rattle.descent.specs.Descent.{symbol, Rank, joining, repeating, single, below, descent}
-use Rattle.parser.specs.Readers.{capped, wrongUnary, width, wrong, over, beside, around, nothing, Reached, ReadAs, ClosedAs}
+use Rattle.trees.specs.Trees.{over, beside, around, nothing}
+use Rattle.parser.specs.Readers.{capped, wrongUnary, width, wrong, Reached, ReadAs, ClosedAs}
 use Rattle.tokens.proofs.Text.{rest-drop}
 use Rattle.descent.proofs.Steps.{joinsAfter, postfixesAfter, joining-is, repeating-is, single-is, joins-on, joins-off, postfixes-on, postfixes-off}
 use Rattle.expression.proofs.Nodes.{kept-refl, kept-trans, stored-keep}
@@ -95,13 +96,12 @@ module _ (j : Join) where
       joins-stop e = goes ∙ rw e
 
       -- one more operand, and the node over both
-      pub joins-on-to : {ns' ns'' : List ℕ} {right sum new : Tree}
+      pub joins-on-to : {ns' ns'' : List ℕ} {right new : Tree}
           → Reached (below j) yes text (tree .at + 1) (tree .used) ns ns' right
-          → sum ≡ beside tree right → new ≡ over sum → Placed (sum .used) (Infix j (tree .root) (right .root)) ns' ns''
+          → new ≡ over (beside tree right) → Placed (right .used) (Infix j (tree .root) (right .root)) ns' ns''
           → Reached (joining j) (joinsAfter j) text at used before ns'' new
       unfolding bind capped depth width wrong
-      joins-on-to {ns' = ns'} {ns'' = ns''} {right = right} r sum-is is p' =
-          let p : Placed (right .used) (Infix j (tree .root) (right .root)) ns' ns'' = rw sum-is at p' in
+      joins-on-to {right = right} r is p =
           let left : tree .root * 4 + 4 ≤ tree .used * 4 = omega (arith, s .rooted) in
           let rightly : right .root * 4 + 4 ≤ right .used * 4 = omega (arith, r .rooted) in
           let between : tree .used * 4 ≤ right .used * 4 = omega (arith, r .grown) in
@@ -116,7 +116,7 @@ module _ (j : Join) where
           (rw (s .width-is, r .width-is))
           (rw (s .wrong-is, r .wrong-is))
           (goes ∙ rw (r .read))
-          (is ∙ ap over sum-is)
+          is
 
 -- `*` AND BANDS
 
@@ -134,17 +134,16 @@ module _ {text before ns : List ℕ} {at used : ℕ} {tree : Tree} (s : Reached 
   postfixes-end k e = again s (kept-trans (omega arith) k (s .kept)) (s .read ∙ postfixes-off (s .e) (drop (tree .at) text) e)
 
   -- one more operator, whose text ends before b
-  pub postfixes-on-to : {ns' : List ℕ} {under new : Tree} {b : ℕ} {u : Unary} {w : Bool} → (x : Got-at postfix cappedUnary text (tree .at) b u)
-      → w ≡ wrongUnary (x .x) → under ≡ around tree b w → new ≡ over under → Placed (under .used) (Applied u (tree .root)) ns ns'
+  pub postfixes-on-to : {ns' : List ℕ} {new : Tree} {b : ℕ} {u : Unary} {w : Bool} → (x : Got-at postfix cappedUnary text (tree .at) b u)
+      → w ≡ wrongUnary (x .x) → new ≡ over (around tree b w) → Placed (tree .used) (Applied u (tree .root)) ns ns'
       → Reached repeating postfixesAfter text at used before ns' new
   unfolding capped depth width wrong
-  postfixes-on-to {ns'} {b = b} {u = u} {w = w} x w-is under-is is p' =
-      let p : Placed (tree .used) (Applied u (tree .root)) ns ns' = rw under-is at p' in
+  postfixes-on-to {b = b} {w = w} x w-is is p =
       let low : tree .root * 4 + 4 ≤ tree .used * 4 = omega (arith, s .rooted) in
       adds (around tree b w) (unary (x .x) (s .e)) (omega (arith, s .ahead, x .ahead)) (x .inside) (omega (arith, s .few, x .ahead)) (s .grown) (s .shallow) (s .kept) p
       (stored-unary (p .placed ∙ ap (λ (v : Unary). Applied v (tree .root)) (x .is)) (s .rooted) (stored-keep low (p .front) (s .stored)))
       (rw (s .depth-is)) (sym (s .width-is)) (rw (w-is, s .wrong-is))
-      (s .read ∙ postfixes-on (s .e) (drop (tree .at) text) (x .read)) (is ∙ ap over under-is)
+      (s .read ∙ postfixes-on (s .e) (drop (tree .at) text) (x .read)) is
 
 -- PRIMARIES
 

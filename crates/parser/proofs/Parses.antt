@@ -8,7 +8,7 @@ use native.Mathlib.Omega.{arith}
 use lib.Dec.{ltb}
 use lib.ListN.{length, drop, drop-of-length-le, length-drop}
 use borrow.Author.Tests.{ltb-true, ltb-false}
-use Rattle.parser.specs.declared.Tree.{Tree}
+use Rattle.trees.specs.declared.Tree.{Tree}
 use Rattle.parser.specs.declared.Parsed.the-variants.{Root, NoForm, WrongLetter, WrongRange, TooDeep}
 use Rattle.expression.specs.declared.Join.the-variants.{Union}
 use Rattle.expression.specs.Expression.{Expression, depth}

@@ -12,7 +12,8 @@ use Rattle.expression.specs.declared.Upper.{Upper}
 use Rattle.expression.specs.declared.Upper.the-variants.{Endless, UpTo}
 use Rattle.parser.specs.declared.Parsed.{Parsed}
 use Rattle.parser.specs.declared.Parsed.the-variants.{Root, NoForm, WrongLetter, WrongRange, TooDeep}
-use Rattle.parser.specs.declared.Tree.{Tree}
+use Rattle.trees.specs.declared.Tree.{Tree}
+use Rattle.trees.specs.Trees.{around}
 use Rattle.parser.specs.declared.Read.{Read}
 use Rattle.parser.specs.declared.Read.the-variants.{Part, Stop}
 use Rattle.expression.specs.declared.Unary.{Unary}
@@ -58,31 +59,6 @@ wrong epsilon = false
 wrong (literal s k) = false
 wrong (join j e f) = wrong e || wrong f
 wrong (unary u e) = wrongUnary u || wrong e
-
--- the tree of a node at the free place, over the operands that `under` sums up
-abbrev pub over : Tree → Tree
-over under =
-    record { at = under .at; root = under .used; used = under .used + 1; depth = under .depth + 1; width = under .width; wrong = under .wrong }
-
--- the operands of a join
-abbrev pub beside : Tree → Tree → Tree
-beside left right =
-    record {
-      at = right .at;
-      root = right .root;
-      used = right .used;
-      depth = max (left .depth) (right .depth);
-      width = max (left .width) (right .width);
-      wrong = left .wrong || right .wrong;
-    }
-
--- the operand of an operator whose text ends before `at`
-abbrev pub around : Tree → ℕ → Bool → Tree
-around tree at w = record { at = at; root = tree .root; used = tree .used; depth = tree .depth; width = tree .width; wrong = w || tree .wrong }
-
--- no operand
-abbrev pub nothing : ℕ → ℕ → ℕ → Tree
-nothing at used w = record { at = at; root = 0; used = used; depth = 0; width = w; wrong = false }
 
 -- What the reader of a level asks where it begins, at `at` with `used` nodes stored: the text is not too long, no more nodes are stored than bytes
 -- were read, and there is room for a node for each byte.

@@ -3,21 +3,20 @@
 //
 // specs/Parsing.antt says what the answer is. The readers of the grammar's levels (alternative, conjunction, sequence, repeat,
 // primary) call each other in a cycle; each reads the text from `at` on, and tells where it ends. What stands at a place of the
-// text is read in `tokens`.
+// text is read in `tokens`, and `trees` puts the nodes together.
 use expression::Join;
 use expression::Node;
 use expression::Unary;
 use tokens::Lettered;
 use tokens::Postfix;
+use trees::Tree;
 ghost use mathlib.Core.Path.{_≡_};
-ghost use mathlib.Core.Bool.{_||_};
-ghost use Prim.Native.Nat.{_+_, _*_, _≤_, _<_, max, min};
+ghost use Prim.Native.Nat.{_*_, _≤_, _<_, min};
 ghost use lib.ListN.{length};
 ghost use Rattle.expression.specs.declared.Join.the-variants.{Union, Intersection, Concatenation};
-ghost use Rattle.expression.specs.Stored.{Placed};
 ghost use Rattle.parser.specs.Parsing.{ParsedAs};
 ghost use Rattle.descent.specs.Descent.{symbol as symbolOf, joining, repeating, single, below};
-ghost use Rattle.parser.specs.Readers.{wrongUnary, over, beside, around, nothing, ClosedAs, Ready, ReadAs, verdict};
+ghost use Rattle.parser.specs.Readers.{wrongUnary, ClosedAs, Ready, ReadAs, verdict};
 
 // The root of the tree, or the refusal.
 pub enum Parsed {
@@ -29,65 +28,10 @@ pub enum Parsed {
     TooDeep,
 }
 
-// A part of the text that was read: what is unread starts at `at`, and `used` nodes are stored.
-struct Tree {
-    at: usize,
-    root: u32,
-    used: u32,
-    depth: u32,
-    // One more than the highest letter.
-    width: u32,
-    // Check 7 refuses some range.
-    wrong: bool,
-}
-
 // What a reader of a level comes to.
 enum Read {
     Part(Tree),
     Stop,
-}
-
-fn larger(x: u32, y: u32) -> u32
-    ensures { λ r. ⌜ r ≡ max x y ⌝ }
-{
-    if x < y { y } else { x }
-}
-
-fn either(x: bool, y: bool) -> bool
-    ensures { λ r. ⌜ r ≡ (x || y) ⌝ }
-{
-    if x { true } else { y }
-}
-
-// Stores a node over the operands that `under` sums up.
-fn add(nodes: &mut [u32], under: Tree, node: Node) -> Tree
-    requires { ⌜ (under .used < 255) × (under .depth ≤ under .used) × (under .used * 4 + 4 ≤ length (now nodes)) ⌝ }
-    ensures { λ r. ⌜ (r ≡ over under) × Placed (under .used) node (now (nodes .entry)) (now (nodes .exit)) ⌝ }
-{
-    let used = under.used;
-    expression::store(nodes, used, node);
-    Tree {
-        at: under.at,
-        root: used,
-        used: used + 1,
-        depth: under.depth + 1,
-        width: under.width,
-        wrong: under.wrong,
-    }
-}
-
-// The operands of a join.
-fn pair(left: Tree, right: Tree) -> Tree
-    ensures { λ r. ⌜ r ≡ beside left right ⌝ }
-{
-    Tree {
-        at: right.at,
-        root: right.root,
-        used: right.used,
-        depth: larger(left.depth, right.depth),
-        width: larger(left.width, right.width),
-        wrong: either(left.wrong, right.wrong),
-    }
 }
 
 // The range of a band is wrong.
@@ -149,8 +93,7 @@ fn chain(text: &[u8], at: usize, nodes: &mut [u32], used: u32, join: Join) -> Re
         let Read::Part(right) = operand(text, tree.at + 1, nodes, tree.used, join) else {
             return Read::Stop;
         };
-        let node = Node::Infix(join, tree.root, right.root);
-        tree = add(nodes, pair(tree, right), node);
+        tree = trees::over_two(nodes, join, tree, right);
     }
     Read::Part(tree)
 }
@@ -167,20 +110,6 @@ fn operand(text: &[u8], at: usize, nodes: &mut [u32], used: u32, join: Join) -> 
     }
 }
 
-// The operand of an operator whose text ends before `at`.
-fn extended(tree: Tree, at: usize, wrong: bool) -> Tree
-    ensures { λ r. ⌜ r ≡ around tree at wrong ⌝ }
-{
-    Tree {
-        at,
-        root: tree.root,
-        used: tree.used,
-        depth: tree.depth,
-        width: tree.width,
-        wrong: either(wrong, tree.wrong),
-    }
-}
-
 // A primary followed by any number of `*` and `{lo,hi}`.
 fn repeat(text: &[u8], at: usize, nodes: &mut [u32], used: u32) -> Read
     requires { ⌜ Ready (now text) at (now nodes) used ⌝ }
@@ -194,25 +123,8 @@ fn repeat(text: &[u8], at: usize, nodes: &mut [u32], used: u32) -> Read
         let Postfix::Operator(end, op) = tokens::postfix_at(text, tree.at) else {
             return Read::Part(tree);
         };
-        let node = Node::Applied(op, tree.root);
-        tree = add(nodes, extended(tree, end, wrong_operator(op)), node);
+        tree = trees::over_one(nodes, op, tree, end, wrong_operator(op));
     }
-}
-
-// A node without operands.
-fn leaf(nodes: &mut [u32], used: u32, at: usize, node: Node, width: u32) -> Read
-    requires { ⌜ (used < 255) × (used * 4 + 4 ≤ length (now nodes)) ⌝ }
-    ensures { λ r. ⌜ (r ≡ Read.Part (over (nothing at used width))) × Placed used node (now (nodes .entry)) (now (nodes .exit)) ⌝ }
-{
-    let under = Tree {
-        at,
-        root: 0,
-        used,
-        depth: 0,
-        width,
-        wrong: false,
-    };
-    Read::Part(add(nodes, under, node))
 }
 
 // `_`, a letter, `!` and a letter, or a whole alternative in round brackets.
@@ -221,7 +133,7 @@ fn primary(text: &[u8], at: usize, nodes: &mut [u32], used: u32) -> Read
     ensures { λ r. ⌜ ReadAs single (now (text .entry)) at used (now (nodes .entry)) (now (nodes .exit)) r ⌝ }
 {
     if tokens::byte_is(text, at, b'_') {
-        return leaf(nodes, used, at + 1, Node::Epsilon, 0);
+        return Read::Part(trees::leaf(nodes, used, at + 1, Node::Epsilon, 0));
     }
     if tokens::byte_is(text, at, b'(') {
         let Read::Part(inner) = alternative(text, at + 1, nodes, used) else {
@@ -232,7 +144,8 @@ fn primary(text: &[u8], at: usize, nodes: &mut [u32], used: u32) -> Read
     let Lettered::Letter(end, sign, channel) = tokens::letter_at(text, at) else {
         return Read::Stop;
     };
-    leaf(nodes, used, end, Node::Literal(sign, channel), channel + 1)
+    let node = Node::Literal(sign, channel);
+    Read::Part(trees::leaf(nodes, used, end, node, channel + 1))
 }
 
 // The part with the closing bracket that has to follow it.

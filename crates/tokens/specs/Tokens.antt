@@ -1,5 +1,5 @@
 -- What the text of a drill begins with, as a function of the text: a byte, a number, a range, an operator with one operand, a letter;
--- and what is said of a place of the text where one of them was read. How they make a drill is found in `parser`.
+-- and what is said of a place of the text where one of them was read. How they make a drill is found in `descent`.
 use mathlib.Core.Bool.{Bool, true, false}
 use mathlib.Core.List.{List, [], _∷_}
 use mathlib.Core.Path.{_≡_}

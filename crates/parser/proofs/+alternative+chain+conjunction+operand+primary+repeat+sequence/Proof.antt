@@ -52,13 +52,12 @@ use Rattle.parser.proofs.+alternative+chain+conjunction+operand+primary
 use Rattle.parser.proofs.sequence.Reads as sequence
 use Rattle.parser.proofs.sequence.Kinds as sequence-kinds
 use Rattle.parser.proofs.+alternative+chain+conjunction+operand+primary+repeat+sequence.Lts-sequence as sequence-lts
-use Rattle.parser.proofs.add.Reads as add-reads
 use Rattle.tokens.proofs.byte_is.Reads as byte-is-reads
 use Rattle.parser.proofs.closed.Reads as closed-reads
-use Rattle.parser.proofs.extended.Reads as extended-reads
-use Rattle.parser.proofs.leaf.Reads as leaf-reads
+use Rattle.trees.proofs.leaf.Reads as leaf-reads
 use Rattle.tokens.proofs.letter_at.Reads as letter-at-reads
-use Rattle.parser.proofs.pair.Reads as pair-reads
+use Rattle.trees.proofs.over_one.Reads as over-one-reads
+use Rattle.trees.proofs.over_two.Reads as over-two-reads
 use Rattle.tokens.proofs.postfix_at.Reads as postfix-at-reads
 use Rattle.parser.proofs.symbol.Reads as symbol-reads
 use Rattle.parser.proofs.wrong_operator.Reads as wrong-operator-reads
@@ -131,10 +130,8 @@ pub +alternative+chain+conjunction+operand+primary+repeat+sequence-spec : {M : T
       symbol-reads.Learnt,
       byte-is-reads.Asked,
       byte-is-reads.Learnt,
-      pair-reads.Asked,
-      pair-reads.Learnt,
-      add-reads.Asked,
-      add-reads.Learnt,
+      over-two-reads.Asked,
+      over-two-reads.Learnt,
     )
     (told chain-kinds.ps μ-chain chain.Pre t)
     chain.Post
@@ -163,29 +160,33 @@ pub +alternative+chain+conjunction+operand+primary+repeat+sequence-spec : {M : T
     let seen = rw (c .before .before .before .before .before .before .before .before .before .before .symbol .ensures) at (c .before .before .before .before .before .before .before .before .byte-is .ensures) in
     let the-if1 = c .before .before .before .before .before .before .before .if1 in
     joins-stop (start .args .join) (c .before .before .before .before .before .before .before .before .before .loop .inv .0) (seen .is ∙ the-if1 .taken) (seen .inside (the-if1 .taken)) (rw (c .enum-told2 .given .1) at (c .before .before .before .before .operand2 .ensures)))
-    (λ c κs. search needs)
-    -- chain: add-requires
+    -- chain: over-two-requires
     (λ c κs.
-    let start = c .before .before .before .before .before .before .before .before .before .before .before .before .before .before .before .before .before .before .before .before .before .before .before in
-    let the-operand = c .before .before .before .before .before .before .before .before .before .before .before .before .before .before .before .before .before .before .before .operand in
-    let turn = c .before .before .before .before .before .before .before .before .before .before .before .before in
-    let the-operand2 = c .before .before .before .before .before .before .before .operand2 in
-    let r = rw (c .before .before .before .right .given .1) at (the-operand2 .ensures) in
+    let start = c .before .before .before .before .before .before .before .before .before .before .before .before .before .before .before .before .before .before .before .before .before .before in
+    let the-operand = c .before .before .before .before .before .before .before .before .before .before .before .before .before .before .before .before .before .before .operand in
+    let turn = c .before .before .before .before .before .before .before .before .before .before .before in
+    let the-operand2 = c .before .before .before .before .before .before .operand2 in
+    let r = rw (c .before .before .right .given .1) at (the-operand2 .ensures) in
     let s = turn .loop .inv .0 in
-    rw (c .pair .ensures) (omega (arith, r .few, r .inside, s .few, start .pre), omega (arith, s .shallow, r .shallow, r .grown), omega (arith, start .pre, the-operand .kept, turn .loop .inv .1, the-operand2 .kept)))
+    record {
+      few = omega (arith, r .few, r .inside, s .few, start .pre);
+      shallow = omega (arith, s .shallow, r .shallow, r .grown);
+      free = omega (arith, r .few, r .inside, s .few, start .pre, the-operand .kept, turn .loop .inv .1, the-operand2 .kept);
+    })
     -- chain: loop-less
     (λ c.
-    let r = rw (c .before .before .before .before .before .before .right .given .1) at (c .before .before .before .before .before .before .before .before .before .before .operand2 .ensures) in
-    rw (c .before .before .add .ensures .0) (rw (c .before .before .before .pair .ensures) (omega (arith, r .ahead, r .inside))))
+    let r = rw (c .before .before .before .before .before .right .given .1) at (c .before .before .before .before .before .before .before .before .before .operand2 .ensures) in
+    rw (c .before .before .over-two .ensures .0) (omega (arith, r .ahead, r .inside)))
     -- chain: loop-again
     (λ c.
-    let start = c .before .before .before .before .before .before .before .before .before .before .before .before .before .before .before .before .before .before .before .before .before .before .before .before .before .before in
-    let turn = c .before .before .before .before .before .before .before .before .before .before .before .before .before .before .before in
-    let seen = rw (c .before .before .before .before .before .before .before .before .before .before .before .before .before .before .before .before .symbol .ensures) at (c .before .before .before .before .before .before .before .before .before .before .before .before .before .before .byte-is .ensures) in
-    let the-if1 = c .before .before .before .before .before .before .before .before .before .before .before .before .before .if1 in
-    let the-operand2 = c .before .before .before .before .before .before .before .before .before .before .operand2 in
-    let r = rw (c .before .before .before .before .before .before .right .given .1) at (the-operand2 .ensures) in
-    (joins-on-to (start .args .join) (turn .loop .inv .0) (seen .is ∙ the-if1 .taken) (seen .inside (the-if1 .taken)) r (c .before .before .before .pair .ensures) (c .before .before .add .ensures .0) (c .before .before .add .ensures .1), omega (arith, c .before .before .add .kept, the-operand2 .kept, turn .loop .inv .1)))
+    let start = c .before .before .before .before .before .before .before .before .before .before .before .before .before .before .before .before .before .before .before .before .before .before .before .before .before in
+    let turn = c .before .before .before .before .before .before .before .before .before .before .before .before .before .before in
+    let seen = rw (c .before .before .before .before .before .before .before .before .before .before .before .before .before .before .before .symbol .ensures) at (c .before .before .before .before .before .before .before .before .before .before .before .before .before .byte-is .ensures) in
+    let the-if1 = c .before .before .before .before .before .before .before .before .before .before .before .before .if1 in
+    let the-operand2 = c .before .before .before .before .before .before .before .before .before .operand2 in
+    let the-over-two = c .before .before .over-two in
+    let r = rw (c .before .before .before .before .before .right .given .1) at (the-operand2 .ensures) in
+    (joins-on-to (start .args .join) (turn .loop .inv .0) (seen .is ∙ the-if1 .taken) (seen .inside (the-if1 .taken)) r (the-over-two .ensures .0) (the-over-two .ensures .1), omega (arith, the-over-two .kept, the-operand2 .kept, turn .loop .inv .1)))
     (λ c. search needs)
     -- chain: returns-3
     (λ c.
@@ -248,7 +249,10 @@ pub +alternative+chain+conjunction+operand+primary+repeat+sequence-spec : {M : T
     -- primary: add-leaf
     (λ c. omega (arith, c .before .before .byte-is .ensures .inside (c .before .if1 .taken)))
     -- primary: leaf-requires
-    (λ c κs. let l = c .before .before .byte-is .ensures .inside (c .before .if1 .taken) in search needs)
+    (λ c κs.
+    let l = c .before .before .byte-is .ensures .inside (c .before .if1 .taken) in
+    let start = c .before .before .before .before .before in
+    record { few = omega (arith, start .pre); shallow = omega arith; free = omega (arith, start .pre) })
     (λ c. search needs)
     -- primary: returns
     (λ c.
@@ -285,7 +289,10 @@ pub +alternative+chain+conjunction+operand+primary+repeat+sequence-spec : {M : T
     -- primary: add-leaf-2
     (λ c. let o = rw (c .before .before .end .given .1) at (c .before .before .before .before .letter-at .ensures) in omega (arith, o .small))
     -- primary: leaf-requires-2
-    (λ c κs. let o = rw (c .before .before .end .given .1) at (c .before .before .before .before .letter-at .ensures) in let a = o .ahead in let i = o .inside in search needs)
+    (λ c κs.
+    let o = rw (c .before .before .end .given .1) at (c .before .before .before .before .letter-at .ensures) in
+    let start = c .before .before .before .before .before .before .before .before .before .before .before in
+    record { few = omega (arith, o .ahead, o .inside, start .pre); shallow = omega arith; free = omega (arith, o .ahead, o .inside, start .pre) })
     (λ c. search needs)
     -- primary: returns-5
     (λ c.
@@ -298,10 +305,8 @@ pub +alternative+chain+conjunction+operand+primary+repeat+sequence-spec : {M : T
       postfix-at-reads.Learnt,
       wrong-operator-reads.Asked,
       wrong-operator-reads.Learnt,
-      extended-reads.Asked,
-      extended-reads.Learnt,
-      add-reads.Asked,
-      add-reads.Learnt,
+      over-one-reads.Asked,
+      over-one-reads.Learnt,
     )
     (told repeat-kinds.ps μ-repeat repeat.Pre t)
     repeat.Post
@@ -322,24 +327,28 @@ pub +alternative+chain+conjunction+operand+primary+repeat+sequence-spec : {M : T
     -- repeat: returns-2
     (λ c. postfixes-end (c .before .before .before .loop .inv .0) ((rw (c .before .before .before .before .before .first .given .1) at (c .before .before .before .before .before .before .before .before .before .primary .ensures)) .kept) (rw (c .enum-told2 .given .1) at (c .before .before .postfix-at .ensures)))
     (λ c κs. search needs)
-    (λ c κs. search needs)
-    -- repeat: add-requires
+    -- repeat: over-one-requires
     (λ c κs.
-    let start = c .before .before .before .before .before .before .before .before .before .before .before .before .before .before .before .before .before in
-    let the-primary = c .before .before .before .before .before .before .before .before .before .before .before .before .before .primary in
-    let turn = c .before .before .before .before .before .before .before in
+    let start = c .before .before .before .before .before .before .before .before .before .before .before .before .before .before .before .before in
+    let the-primary = c .before .before .before .before .before .before .before .before .before .before .before .before .primary in
+    let turn = c .before .before .before .before .before .before in
     let s = turn .loop .inv .0 in
-    let x = rw (c .before .before .before .before .end .given .1) at (c .before .before .before .before .before .before .postfix-at .ensures) in
-    rw (c .extended .ensures) (omega (arith, s .few, x .ahead, x .inside, start .pre), s .shallow, omega (arith, s .few, x .ahead, x .inside, start .pre, the-primary .kept, turn .loop .inv .1)))
+    let x = rw (c .before .before .before .end .given .1) at (c .before .before .before .before .before .postfix-at .ensures) in
+    record {
+      few = omega (arith, s .few, x .ahead, x .inside, start .pre);
+      shallow = s .shallow;
+      free = omega (arith, s .few, x .ahead, x .inside, start .pre, the-primary .kept, turn .loop .inv .1);
+    })
     -- repeat: loop-less
     (λ c.
-    let x = rw (c .before .before .before .before .before .before .before .end .given .1) at (c .before .before .before .before .before .before .before .before .before .postfix-at .ensures) in
-    rw (c .before .before .add .ensures .0) (rw (c .before .before .before .extended .ensures) (omega (arith, x .ahead, x .inside))))
+    let x = rw (c .before .before .before .before .before .before .end .given .1) at (c .before .before .before .before .before .before .before .before .postfix-at .ensures) in
+    rw (c .before .before .over-one .ensures .0) (omega (arith, x .ahead, x .inside)))
     -- repeat: loop-again
     (λ c.
-    let turn = c .before .before .before .before .before .before .before .before .before .before in
-    let x = rw (c .before .before .before .before .before .before .before .end .given .1) at (c .before .before .before .before .before .before .before .before .before .postfix-at .ensures) in
-    (postfixes-on-to (turn .loop .inv .0) x (c .before .before .before .before .wrong-operator .ensures ∙ ap wrongUnary (x .is) ∙ capped-wrong-unary (x .x)) (c .before .before .before .extended .ensures) (c .before .before .add .ensures .0) (c .before .before .add .ensures .1), omega (arith, c .before .before .add .kept, turn .loop .inv .1))))
+    let turn = c .before .before .before .before .before .before .before .before .before in
+    let x = rw (c .before .before .before .before .before .before .end .given .1) at (c .before .before .before .before .before .before .before .before .postfix-at .ensures) in
+    let the-over-one = c .before .before .over-one in
+    (postfixes-on-to (turn .loop .inv .0) x (c .before .before .before .wrong-operator .ensures ∙ ap wrongUnary (x .is) ∙ capped-wrong-unary (x .x)) (the-over-one .ensures .0) (the-over-one .ensures .1), omega (arith, the-over-one .kept, turn .loop .inv .1))))
     λ t. sequence-lts.spec (
       lower chain-kinds.ps μ-chain chain.Pre t,
       chain.Post,

@@ -1,7 +1,7 @@
 -- `extended` meets its contract.
 use borrow.Author.Needs.{needs}
-use Rattle.parser.proofs.extended.Statement.{statement}
-use Rattle.parser.proofs.extended.Tie as tie
+use Rattle.trees.proofs.extended.Statement.{statement}
+use Rattle.trees.proofs.extended.Tie as tie
 
 returns : tie.Need-returns
 returns c = rw (c .either .ensures)

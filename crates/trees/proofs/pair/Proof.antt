@@ -1,7 +1,7 @@
 -- `pair` meets its contract.
 use borrow.Author.Needs.{needs}
-use Rattle.parser.proofs.pair.Statement.{statement}
-use Rattle.parser.proofs.pair.Tie as tie
+use Rattle.trees.proofs.pair.Statement.{statement}
+use Rattle.trees.proofs.pair.Tie as tie
 
 returns : tie.Need-returns
 returns c = rw (c .before .before .larger .ensures, c .before .larger2 .ensures, c .either .ensures)

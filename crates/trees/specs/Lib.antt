@@ -1,0 +1,2 @@
+-- What the contracts of `trees` cite: definitions alone.
+pub mod Trees
