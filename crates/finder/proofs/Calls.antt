@@ -21,15 +21,15 @@ use Rattle.expression.specs.Refusal.{Accepted, DrillCause, wrong-length, no-for
 use Rattle.descent.proofs.Complete.{unique}
 use Rattle.parser.proofs.Parses.{answered}
 use Rattle.meaning.specs.Lists.{value, overflow, Value, repeated, RoundsOf, Sum}
-use Rattle.finder.specs.Causes.{CallAs.refused, CallAs.accepted}
-use Rattle.finder.specs.Outcome.{Outcome, RecordingHead, DrillLength, DrillForm, DrillLetter, DrillRange, DrillDepth, WorkShort, Overflow, AnswerShort, Finished, Returned, returned, Comes, largest, CallAs, words, fronted, frontOf, Left, both, answer-buffer, delivered, leaves, LeftAs, BuffersAs, FindAs}
+use Rattle.calls.specs.Causes.{CallAs.refused, CallAs.accepted}
+use Rattle.calls.specs.Outcome.{Outcome, RecordingHead, DrillLength, DrillForm, DrillLetter, DrillRange, DrillDepth, WorkShort, Overflow, AnswerShort, Finished, Returned, returned, Comes, largest, CallAs, words, fronted, frontOf, Left, both, answer-buffer, delivered, leaves, LeftAs, BuffersAs, FindAs}
 use Rattle.finder.specs.Demands.{Exact, Total, NoInputCause}
 use Rattle.meaning.proofs.Evaluation.{evaluates-well, evaluates-exists}
 use Rattle.meaning.proofs.Members.{members}
 use Rattle.meaning.proofs.Totals.{evaluates-sum, sum-mem, sum-unique, rounds-of-unique, rounds-of-bound, rounds-of-pieces}
-use Rattle.finder.proofs.Causes.{call-unique, number-none}
-use Rattle.finder.proofs.Comes.{recording-finite, comes-unique, finishes-once}
-use Rattle.finder.proofs.Outcomes.{recordings, drills}
+use Rattle.calls.proofs.Causes.{call-unique, number-none}
+use Rattle.calls.proofs.Comes.{recording-finite, comes-unique, finishes-once}
+use Rattle.calls.proofs.Outcomes.{recordings, drills}
 use Rattle.finder.proofs.Answered.{front-words, list-words}
 
 -- ---- zones

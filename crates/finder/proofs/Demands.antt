@@ -4,11 +4,11 @@ use mathlib.Core.List.{List}
 use Prim.Native.Nat.{ℕ}
 use lib.IntN.{ℤ}
 use Rattle.outcome.proofs.Numbers.{zero-finished}
-use Rattle.finder.specs.Outcome.{Outcome, Finished, returned, CallAs, FindAs}
+use Rattle.calls.specs.Outcome.{Outcome, Finished, returned, CallAs, FindAs}
 use Rattle.finder.specs.Demands.{Demand1, Demand2, Demand3, Total, NoInputCause}
-use Rattle.finder.proofs.Causes.{call-unique, number-first, number-none}
-use Rattle.finder.proofs.Comes.{finishes-once}
-use Rattle.finder.proofs.Outcomes.{call-exists}
+use Rattle.calls.proofs.Causes.{call-unique, number-first, number-none}
+use Rattle.calls.proofs.Comes.{finishes-once}
+use Rattle.calls.proofs.Outcomes.{call-exists}
 use Rattle.finder.proofs.Calls.{call-exact, call-bounded, inputs-bounded, total-unique, find-unique}
 
 -- ==== Of every call
@@ -45,3 +45,8 @@ module _ {bytes text : List ℕ} {answer work answer′ work′ : List ℤ} {o :
   -- Demand 3: there is one total, and it is what an accepted call reports.
   pub demand-3 : Demand3 bytes text o
   demand-3 = record { bounded = one-total; reported = λ e. call-bounded (finished e .outcome) }
+
+-- What `find` promises of a call that has the defined outcome.
+pub promised : {bytes text : List ℕ} {answer work answer′ work′ : List ℤ} {o : Outcome} → FindAs bytes text answer work o answer′ work′
+    → Demand1 bytes text answer work o answer′ work′ × (Demand2 bytes text o answer′ × Demand3 bytes text o)
+promised h = (demand-1 h, (demand-2 h, demand-3 h))

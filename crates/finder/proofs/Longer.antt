@@ -12,10 +12,10 @@ use Rattle.recording.specs.declared.Reading.the-variants.{WrongLength, WrongHea
 use Rattle.recording.specs.Reading.{ReadingAs}
 use Rattle.recording.proofs.Refusals.{reading-exists, refused-length as refused-recording}
 use Rattle.parser.proofs.Parses.{refused-length}
-use Rattle.finder.specs.Outcome.{Outcome, RecordingLength, RecordingHead, RecordingChange, DrillLength, largest, CallAs, BuffersAs, FindAs}
-use Rattle.finder.proofs.Causes.{call-unique}
-use Rattle.finder.proofs.Comes.{finishes-once}
-use Rattle.finder.proofs.Outcomes.{recording-call, drill-call}
+use Rattle.calls.specs.Outcome.{Outcome, RecordingLength, RecordingHead, RecordingChange, DrillLength, largest, CallAs, BuffersAs, FindAs}
+use Rattle.calls.proofs.Causes.{call-unique}
+use Rattle.calls.proofs.Comes.{finishes-once}
+use Rattle.calls.proofs.Outcomes.{recording-call, drill-call}
 
 -- the same bytes, or both more than `most`
 abbrev pub Alike : ℕ → List ℕ → List ℕ → Type 0

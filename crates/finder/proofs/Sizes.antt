@@ -16,12 +16,12 @@ use Rattle.runs.specs.Levels.{Shows}
 use Rattle.recording.proofs.Rounding.{tick-range}
 use Rattle.expression.specs.Expression.{depth}
 use Rattle.expression.specs.Refusal.{too-deep}
-use Rattle.finder.specs.Outcome.{RecordingHead, DrillLength, DrillForm, DrillLetter, DrillRange, DrillDepth, Finished, NoCause, frontOf, FindAs}
+use Rattle.calls.specs.Outcome.{RecordingHead, DrillLength, DrillForm, DrillLetter, DrillRange, DrillDepth, Finished, NoCause, frontOf, FindAs}
 use Rattle.values.specs.Values.{most-rounds}
 use Rattle.meaning.proofs.Evaluation.{evaluates-well}
 use Rattle.evaluation.proofs.Rounds.{rounds-few}
-use Rattle.finder.proofs.Causes.{number-none}
-use Rattle.finder.proofs.Outcomes.{recordings}
+use Rattle.calls.proofs.Causes.{number-none}
+use Rattle.calls.proofs.Outcomes.{recordings}
 use Rattle.finder.proofs.Answered.{words-length}
 use Rattle.finder.proofs.Calls.{front-call, call-exact}
 

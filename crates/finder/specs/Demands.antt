@@ -19,7 +19,7 @@ use Rattle.expression.specs.Expression.{Expression, unary}
 use Rattle.expression.specs.Grammar.{Form, alternative}
 use Rattle.meaning.specs.Satisfies.{Satisfies}
 use Rattle.meaning.specs.Lists.{repeated, RoundsOf, Sum}
-use Rattle.finder.specs.Outcome.{Outcome, RecordingLength, RecordingHead, RecordingChange, DrillLength, DrillForm, DrillLetter, DrillRange, DrillDepth, Overflow, returned, Cause, First, NoCause, frontOf, FindAs}
+use Rattle.calls.specs.Outcome.{Outcome, RecordingLength, RecordingHead, RecordingChange, DrillLength, DrillForm, DrillLetter, DrillRange, DrillDepth, Overflow, returned, Cause, First, NoCause, frontOf, FindAs}
 
 -- ==== Demand 1: the outcome and both buffers are the defined ones. "Each is given when its cause holds and no earlier one does, and never
 -- otherwise. A drill is accepted where no cause holds"

@@ -31,9 +31,9 @@ use Rattle.descent.proofs.Complete.{whole-sound}
 use Rattle.parser.proofs.Parses.{right-length, accepted}
 use Rattle.meaning.specs.Lists.{value, ended, Then.goes, runZones, Letter, Evaluates}
 use Rattle.outcome.specs.declared.Outcome.the-variants.{Finished}
-use Rattle.finder.specs.Outcome.{Comes, room, words, fronted, cleared, FindAs}
+use Rattle.calls.specs.Outcome.{Comes, room, words, fronted, cleared, FindAs}
 use Rattle.marked.specs.Marked.{R, Row, marked, Gives, RowHolds}
-use Rattle.finder.proofs.Outcomes.{recordings, drills, Without, recording-call, drill-none, accepted-call}
+use Rattle.calls.proofs.Outcomes.{recordings, drills, Without, recording-call, drill-none, accepted-call}
 use Rattle.finder.proofs.Calls.{find-unique}
 
 -- ---- a drill

@@ -13,7 +13,7 @@ use Rattle.recording.specs.Reading.{tick}
 use Rattle.text.specs.Text.{ascii}
 use Rattle.outcome.specs.declared.Outcome.{Outcome}
 use Rattle.outcome.specs.Outcome.{returned}
-use Rattle.finder.specs.Outcome.{room, words, fronted, cleared, FindAs}
+use Rattle.calls.specs.Outcome.{room, words, fronted, cleared, FindAs}
 
 -- ---- the inputs
 

@@ -12,7 +12,7 @@ use Rattle.outcome.specs.declared.Returned.{Returned}
 use Rattle.outcome.specs.declared.Outcome.{Outcome}
 use Rattle.outcome.specs.Outcome.{returned, frontOf}
 use Rattle.outcome.proofs.Numbers.{zero-finished}
-use Rattle.finder.specs.Outcome.{room, FindAs}
+use Rattle.calls.specs.Outcome.{room, FindAs}
 use Rattle.finder.proofs.Sizes.{few-zones, few-rounds, front-length, front-ranged}
 use Rattle.sheet.specs.Sheet.{sheet}
 use Rattle.sheet.specs.declared.Printed.{Printed}

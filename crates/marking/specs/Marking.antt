@@ -8,7 +8,7 @@ use Rattle.words.specs.Words.{zone-words}
 use Rattle.list.specs.Insert.{capacity}
 use Rattle.outcome.specs.declared.Outcome.{Outcome}
 use Rattle.outcome.specs.Outcome.{returned, frontOf}
-use Rattle.finder.specs.Outcome.{room, FindAs}
+use Rattle.calls.specs.Outcome.{room, FindAs}
 use Rattle.sheet.specs.Sheet.{sheet}
 
 -- the answer words that are lent: those of a list that is full

@@ -9,7 +9,7 @@ use lib.IntN.{ℤ}
 use lib.ListN.{length, take, length-take}
 use lib.Seq.{take-all, take-take}
 use Rattle.outcome.specs.declared.Outcome.{Outcome}
-use Rattle.finder.specs.Outcome.{largest, FindAs}
+use Rattle.calls.specs.Outcome.{largest, FindAs}
 use Rattle.finder.proofs.Longer.{Alike, longer}
 use Rattle.files.specs.Files.{trimmed}
 use Rattle.files.proofs.Trimmed.{trimmed-length}

@@ -1,17 +1,18 @@
 -- `find` meets its contract: the three demands follow from the defined outcome.
 use mathlib.Core.Path.{refl}
 use Rattle.recording.specs.declared.Reading.the-variants.{WrongLength, WrongHead, WrongChange}
-use Rattle.finder.proofs.Outcomes.{recording-call}
-use Rattle.finder.proofs.Finding.{promised, untouched}
+use Rattle.calls.proofs.Outcomes.{recording-call}
+use Rattle.calls.proofs.Finding.{untouched}
+use Rattle.finder.proofs.Demands.{promised}
 use borrow.Author.Needs.{needs}
 use Rattle.finder.proofs.find.Statement.{statement}
 use Rattle.finder.proofs.find.Tie as tie
 
-read-drill-requires : tie.Need-read-drill-requires
-read-drill-requires c κs = rw (c .before .before .before .size .given .1) at (c .before .before .before .before .before .read .ensures)
+find-in-requires : tie.Need-find-in-requires
+find-in-requires c κs = rw (c .before .before .before .size .given .1) at (c .before .before .before .before .before .read .ensures)
 
 returns : tie.Need-returns
-returns c = promised (c .before .before .read-drill .ensures)
+returns c = promised (c .before .before .find-in .ensures)
 
 returns-2 : tie.Need-returns-2
 returns-2 c = promised (untouched refl (recording-call _ _ _ _ WrongLength (rw (c .enum-told .given .1) at (c .before .before .read .ensures))))
@@ -28,7 +29,7 @@ find-spec =
     (tie.spec
     (λ c κs. search needs)
     (λ c. search needs)
-    read-drill-requires
+    find-in-requires
     (λ c. search needs)
     (λ c. search needs)
     (λ c. search needs)

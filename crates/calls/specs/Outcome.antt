@@ -9,7 +9,7 @@ use Rattle.expression.specs.Expression.{Expression}
 use Rattle.expression.specs.Grammar.{Form, alternative}
 use Rattle.expression.specs.Refusal.{DrillCause}
 use Rattle.meaning.specs.Lists.{Value, overflow, Evaluates}
-use Rattle.finder.specs.Causes as calls
+use Rattle.calls.specs.Causes as calls
 pub use Rattle.delivery.specs.Buffers.{room, NoRoom, Finishes, words, fronted, zeroed, cleared, BothKept, AnswerKept, Delivered}
 pub use Rattle.outcome.specs.declared.Returned.{Returned}
 pub use Rattle.outcome.specs.declared.Outcome.{Outcome}

@@ -1,9 +1,9 @@
 -- `drill_of` meets its contract, case by case.
 use mathlib.Core.Path.{sym, ap}
 use borrow.Author.Needs.{needs}
-use Rattle.finder.specs.Steps.{drillOf}
-use Rattle.finder.proofs.drill_of.Statement.{statement}
-use Rattle.finder.proofs.drill_of.Tie as tie
+use Rattle.calls.specs.Steps.{drillOf}
+use Rattle.calls.proofs.drill_of.Statement.{statement}
+use Rattle.calls.proofs.drill_of.Tie as tie
 
 pub drill-of-spec : {M : Type 1} → statement M
 drill-of-spec =

@@ -5,8 +5,8 @@ use Rattle.delivery.specs.declared.Worked.{Worked}
 use Rattle.delivery.specs.declared.Worked.the-variants.{WorkShort, Overflow, AnswerShort, Finished}
 use Rattle.outcome.specs.declared.Outcome.{Outcome}
 use Rattle.outcome.specs.declared.Outcome.the-variants.{DrillLength, DrillForm, DrillLetter, DrillRange, DrillDepth, WorkShort, Overflow, AnswerShort, Finished}
-use Rattle.finder.specs.declared.Drill.{Drill}
-use Rattle.finder.specs.declared.Drill.the-variants.{Root, Refused}
+use Rattle.calls.specs.declared.Drill.{Drill}
+use Rattle.calls.specs.declared.Drill.the-variants.{Root, Refused}
 
 -- the root of a drill that was read, or the outcome of a call that refuses it
 abbrev pub drillOf : Parsed → Drill

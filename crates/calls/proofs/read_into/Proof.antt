@@ -1,9 +1,9 @@
 -- `read_into` meets its contract: the parser answers a refusal, or the tree that is worked out.
 use Rattle.expression.proofs.Laws.{root-planted}
-use Rattle.finder.proofs.Finding.{was-read, drill-read, found}
+use Rattle.calls.proofs.Finding.{was-read, drill-read, found}
 use borrow.Author.Needs.{needs}
-use Rattle.finder.proofs.read_into.Statement.{statement}
-use Rattle.finder.proofs.read_into.Tie as tie
+use Rattle.calls.proofs.read_into.Statement.{statement}
+use Rattle.calls.proofs.read_into.Tie as tie
 
 work-out-requires : tie.Need-work-out-requires
 work-out-requires c κs =

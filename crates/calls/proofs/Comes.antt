@@ -9,7 +9,7 @@ use Rattle.expression.specs.Expression.{Expression}
 use Rattle.descent.proofs.Complete.{unique}
 use Rattle.meaning.specs.Lists.{Value, Evaluates}
 use Rattle.meaning.proofs.Evaluation.{FiniteVariability, evaluates-unique}
-use Rattle.finder.specs.Outcome.{Finished, Comes, Finishes}
+use Rattle.calls.specs.Outcome.{Finished, Comes, Finishes}
 
 -- The levels of a recording are of finite variability.
 pub recording-finite : (bytes : List ℕ) (from to : ℕ) → FiniteVariability (Shows bytes) from to

@@ -1,9 +1,9 @@
 -- `outcome_of` meets its contract, case by case.
 use mathlib.Core.Path.{sym, ap}
 use borrow.Author.Needs.{needs}
-use Rattle.finder.specs.Steps.{outcomeOf}
-use Rattle.finder.proofs.outcome_of.Statement.{statement}
-use Rattle.finder.proofs.outcome_of.Tie as tie
+use Rattle.calls.specs.Steps.{outcomeOf}
+use Rattle.calls.proofs.outcome_of.Statement.{statement}
+use Rattle.calls.proofs.outcome_of.Tie as tie
 
 pub outcome-of-spec : {M : Type 1} → statement M
 outcome-of-spec =

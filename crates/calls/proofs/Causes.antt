@@ -4,8 +4,8 @@ use mathlib.Core.Logic.{_↔_, _⊎_, inl, inr, ⊎-map, ⊎-elim}
 use mathlib.Core.List.{List, [], _∷_, _++_, List·Memᴰ, List·Memᴰ·head, List·Memᴰ·tail, List·Memᴰ·not-nil as not-nil, Memᴰ·append-right as append-right}
 use Prim.Native.Nat.{ℕ, _<_}
 use native.Mathlib.Omega.{arith}
-use Rattle.finder.specs.Causes.{First, NoCause, CallAs, CallAs.refused, CallAs.accepted}
-use Rattle.finder.specs.Outcome.{Outcome, Finished, returned}
+use Rattle.calls.specs.Causes.{First, NoCause, CallAs, CallAs.refused, CallAs.accepted}
+use Rattle.calls.specs.Outcome.{Outcome, Finished, returned}
 use Rattle.outcome.proofs.Numbers.{zero-finished, same-number}
 
 -- ---- places in a list

@@ -19,10 +19,10 @@ use Rattle.meaning.specs.Lists.{Value, value, overflow}
 use Rattle.meaning.proofs.Evaluation.{clash, evaluates-exists}
 use Rattle.words.specs.Words.{zone-words}
 use Rattle.outcome.proofs.Numbers.{same-number}
-use Rattle.finder.specs.Causes.{CallAs.accepted}
-use Rattle.finder.specs.Outcome.{Outcome, RecordingLength, RecordingHead, RecordingChange, DrillLength, DrillForm, DrillLetter, DrillRange, DrillDepth, WorkShort, Overflow, AnswerShort, Finished, returned, Comes, largest, room, NoRoom, Cause, refusals, CallAs}
-use Rattle.finder.proofs.Causes.{NoneOf, none, _also_, none-of, none-append, refused-at}
-use Rattle.finder.proofs.Comes.{recording-finite, comes-unique}
+use Rattle.calls.specs.Causes.{CallAs.accepted}
+use Rattle.calls.specs.Outcome.{Outcome, RecordingLength, RecordingHead, RecordingChange, DrillLength, DrillForm, DrillLetter, DrillRange, DrillDepth, WorkShort, Overflow, AnswerShort, Finished, returned, Comes, largest, room, NoRoom, Cause, refusals, CallAs}
+use Rattle.calls.proofs.Causes.{NoneOf, none, _also_, none-of, none-append, refused-at}
+use Rattle.calls.proofs.Comes.{recording-finite, comes-unique}
 
 -- The causes stand in the order of their numbers, 1 to 11.
 pub in-order : map (λ (o : Outcome). returned o .number) refusals ≡ 1 ∷ 2 ∷ 3 ∷ 4 ∷ 5 ∷ 6 ∷ 7 ∷ 8 ∷ 9 ∷ 10 ∷ 11 ∷ []

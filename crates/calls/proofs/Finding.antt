@@ -18,19 +18,12 @@ use Rattle.parser.specs.Parsing.{ParsedAs}
 use Rattle.meaning.specs.Lists.{Value, value, overflow, Evaluates}
 use Rattle.delivery.specs.declared.Worked.{Worked}
 use Rattle.delivery.specs.declared.Worked.the-variants.{WorkShort, Overflow, AnswerShort, Finished}
-use Rattle.finder.specs.declared.Drill.{Drill}
-use Rattle.finder.specs.declared.Drill.the-variants.{Root, Refused}
-use Rattle.finder.specs.Outcome.{Outcome, DrillLength, DrillForm, DrillLetter, DrillRange, DrillDepth, Finished, largest, both, leaves, returned, Comes, CallAs, FindAs}
-use Rattle.finder.specs.Demands.{Demand1, Demand2, Demand3}
+use Rattle.calls.specs.declared.Drill.{Drill}
+use Rattle.calls.specs.declared.Drill.the-variants.{Root, Refused}
+use Rattle.calls.specs.Outcome.{Outcome, DrillLength, DrillForm, DrillLetter, DrillRange, DrillDepth, Finished, largest, both, leaves, returned, Comes, CallAs, FindAs}
 use Rattle.delivery.specs.Working.{WorkedAs}
-use Rattle.finder.specs.Steps.{drillOf, outcomeOf}
-use Rattle.finder.proofs.Demands.{demand-1, demand-2, demand-3}
-use Rattle.finder.proofs.Outcomes.{Without, recordings, drills, recording-call, drill-call, drill-none, work-call, overflow-call, answer-call, accepted-call}
-
--- What `find` promises of a call that has the defined outcome.
-pub promised : {bytes text : List ℕ} {answer work answer′ work′ : List ℤ} {o : Outcome} → FindAs bytes text answer work o answer′ work′
-    → Demand1 bytes text answer work o answer′ work′ × (Demand2 bytes text o answer′ × Demand3 bytes text o)
-promised h = (demand-1 h, (demand-2 h, demand-3 h))
+use Rattle.calls.specs.Steps.{drillOf, outcomeOf}
+use Rattle.calls.proofs.Outcomes.{Without, recordings, drills, recording-call, drill-call, drill-none, work-call, overflow-call, answer-call, accepted-call}
 
 -- A call whose outcome leaves both buffers as they were.
 pub untouched : {bytes text : List ℕ} {answer work : List ℤ} {o : Outcome} → leaves o ≡ both → CallAs bytes text (length answer) (length work) o

@@ -1,0 +1,4 @@
+-- What the contracts of `calls` and of the crates above cite: definitions alone.
+pub mod Causes
+pub mod Outcome
+pub mod Steps
