@@ -55,6 +55,7 @@ fn tables() -> Vec<(&'static str, Vec<Row>)> {
         ("Growth with the zones", growth_with_zones()),
         ("Growth with the rounds", growth_with_rounds()),
         ("Growth with the changes", growth_with_changes()),
+        ("Rises and falls", events()),
     ]
 }
 
@@ -407,4 +408,17 @@ fn growth_with_changes() -> Vec<Row> {
         .into_iter()
         .map(|changes| Row::new(format!("a, {changes} changes"), many_changes(changes), "a"))
         .collect()
+}
+
+fn events() -> Vec<Row> {
+    let most = (MAX_LENGTH / RECORD - 1) as u32;
+    let turn = "(+a.a&!c{0,300}).c";
+    vec![
+        Row::new("+a, the largest recording", many_changes(most), "+a"),
+        Row::new("+a, 128 rises", pulses(128), "+a"),
+        Row::new("+a.a{1,}.-a, 127 runs", pulses(127), "+a.a{1,}.-a"),
+        Row::new(turn, accepted(ordinary_drive, &[turn]), turn),
+        Row::new("(+a|-a|a)*, 42 runs", pulses(42), "(+a|-a|a)*"),
+        Row::new("(+a.a.-a.!a)*, 15 runs", pulses(15), "(+a.a.-a.!a)*"),
+    ]
 }

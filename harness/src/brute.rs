@@ -18,7 +18,9 @@
 //! when t' ≤ t + c does, and t' - t < c just when t' < t + c, it keeps every comparison of a length
 //! with a whole number, so bounds that are not reached ask for no finer grid than those that are.
 //! So whatever Definition 3 says of a stretch and its cuts, it says of them moved by h: a stretch
-//! fits a drill just when the moved stretch does.
+//! fits a drill just when the moved stretch does. A rise or a fall is a stretch of length 0 at a whole
+//! tick: h leaves it where it is and moves no other stretch there, so events ask for no finer grid
+//! either.
 //!
 //! *Ends on thirds.* Such an h takes one stretch to another when their ends lie in the same ticks
 //! and their fractional parts are ordered alike, with each other and with 0. Two fractional parts
@@ -154,6 +156,7 @@ impl Grid {
         match drill {
             Drill::Empty => self.diagonal(),
             Drill::Letter { channel, high } => self.letter(*channel, *high),
+            Drill::Event { channel, rise } => self.event(*channel, *rise),
             Drill::Then(left, right) => self.compose(&self.fits(left), &self.fits(right)),
             Drill::Both(left, right) => self.fits(left).combine(&self.fits(right), |l, r| l & r),
             Drill::Either(left, right) => self.fits(left).combine(&self.fits(right), |l, r| l | r),
@@ -182,6 +185,25 @@ impl Grid {
             let ticks = start / self.parts..end.div_ceil(self.parts);
             if start < end && self.levels[ticks].iter().all(fits) {
                 table.add(start, end);
+            }
+        }
+        table
+    }
+
+    /// The stretches of length 0 at a whole tick s, 0 < s < d, where the channel is low in tick s - 1
+    /// and high in tick s; for a fall the opposite.
+    fn event(&self, channel: u8, rise: bool) -> Table {
+        let mut table = self.empty();
+        let high_in = |tick: usize| self.levels[tick] >> channel & 1 == 1;
+        for s in 1..self.levels.len() {
+            let (before, after) = (high_in(s - 1), high_in(s));
+            let fits = if rise {
+                !before && after
+            } else {
+                before && !after
+            };
+            if fits {
+                table.add(s * self.parts, s * self.parts);
             }
         }
         table
@@ -358,6 +380,12 @@ mod tests {
                 let high_at = |part: usize| levels[part / parts] >> channel & 1 == 1;
                 s < e && (s..e).all(|part| high_at(part) == *high)
             }
+            // The parts of the grid on either side of the stretch, which are parts of two ticks.
+            Drill::Event { channel, rise } => {
+                let high_at = |part: usize| levels[part / parts] >> channel & 1 == 1;
+                let between_ticks = s.is_multiple_of(parts) && 0 < s && s < parts * levels.len();
+                s == e && between_ticks && high_at(s - 1) != *rise && high_at(s) == *rise
+            }
             Drill::Then(left, right) => {
                 (s..=e).any(|cut| fits(left, s, cut) && fits(right, cut, e))
             }
@@ -432,6 +460,31 @@ mod tests {
         assert_eq!(fits("(a{<1,<2})*{<3,<5}"), [true; 3]);
         assert_eq!(fits("(a{2,<3})*{0,<5}"), [false, true, true]);
         assert_eq!(fits("(a{<2,<3})*{0,<5}"), [false, false, true]);
+    }
+
+    /// In sixths of R, where `a` rises at 2 and falls at 7.
+    #[test]
+    fn an_event_is_a_whole_tick_and_nothing_beside_it() {
+        let all = |text: &str| -> Vec<(usize, usize)> {
+            let bytes = recording_r();
+            let recording = Recording::read(&bytes).unwrap();
+            let table = exact(&drill(text), &recording);
+            let stretches = table.stretches();
+            stretches.filter(|&(s, e)| table.has(s, e)).collect()
+        };
+        assert_eq!(all("+a"), [(12, 12)]);
+        assert_eq!(all("-a"), [(42, 42)]);
+        assert_eq!(all("+a|-a"), [(12, 12), (42, 42)]);
+        for same in ["+a.+a", "+a&_", "+a{0,0}", "_.+a._", "+a{0,<1}"] {
+            assert_eq!(all(same), [(12, 12)], "{same}");
+        }
+        for none in ["+a.-a", "+a&-a", "+a&a", "+a{1,}", "+a{<0,}", "a.+a"] {
+            assert_eq!(all(none), [], "{none}");
+        }
+        assert_eq!(all("+a.a{0,<1}"), [13, 14, 15, 16, 17].map(|e| (12, e)));
+        assert_eq!(all("a{<0,<1}.-a"), [37, 38, 39, 40, 41].map(|s| (s, 42)));
+        assert_eq!(all("+a.a.-a"), [(12, 42)]);
+        assert_eq!(all("(+a|-a)*"), all("_"));
     }
 
     #[test]
@@ -523,6 +576,9 @@ mod tests {
             "(a{<2,3})*",
             "(a{2,<3})*",
             "((a.!a){<1,<2}|a{1,<2})*",
+            "(+a|-a|a)*",
+            "(+a.a{0,2}|a{1,1}.-a|!a)*",
+            "(!a.+a|+a.a{<1,<2}|a{2,2})*",
         ] {
             let fine = on_grid(&drill(text), &recording, 60).coarsened(6);
             assert_eq!(exact(&drill(text), &recording), fine, "{text}");

@@ -279,10 +279,22 @@ fn check_accepted(
     let reached = |part: &Drill| !matches!(part, Drill::Within(_, band) if !band.is_reached());
     tally.not_reached += u64::from(!drill.all(&reached));
     tally.halves_down += u64::from(times(&input.recording).any(is_half_down));
+    tally.rises += u64::from(has_event(&drill, &recording, true));
+    tally.falls += u64::from(has_event(&drill, &recording, false));
     if recording.ticks() <= MAX_BRUTE_TICKS {
         tally.stretches += brute::compare(&drill, &recording, zones)?;
     }
     Ok(())
+}
+
+/// Whether some event of the drill, a rise or a fall, is there in the recording, so that its list is
+/// not empty.
+fn has_event(drill: &Drill, recording: &Recording, wanted: bool) -> bool {
+    let is_there = |part: &Drill| {
+        matches!(part, Drill::Event { channel, rise }
+            if *rise == wanted && recording.has_event(*channel, *rise))
+    };
+    drill.count(&is_there) > 0
 }
 
 /// Whether a time lies halfway between two ticks of which the lower is even: here, and nowhere
@@ -318,6 +330,10 @@ struct Tally {
     not_reached: u64,
     /// Accepted recordings with a time or a duration that is a half and goes down.
     halves_down: u64,
+    /// Accepted drills with a rise that lists a zone.
+    rises: u64,
+    /// Accepted drills with a fall that lists a zone.
+    falls: u64,
     zones: u64,
     stars: u64,
     most_rounds: u64,
@@ -335,18 +351,23 @@ impl Tally {
         self.most_rounds = self.most_rounds.max(rounds.unwrap_or(0));
     }
 
-    /// What came up in no call, of the refusals, bounds that are not reached and halves that go
-    /// down.
+    /// What came up in no call, of the refusals, bounds that are not reached, halves that go down,
+    /// rises and falls.
     fn missing(&self) -> Vec<String> {
         let mut missing: Vec<String> = (1..=Refusal::LAST)
             .filter(|&number| self.returned[number] == 0)
             .map(|number| format!("refused {number}"))
             .collect();
-        if self.not_reached == 0 {
-            missing.push("accepted with a bound that is not reached".into());
-        }
-        if self.halves_down == 0 {
-            missing.push("accepted with a half that goes down".into());
+        let accepted = [
+            (self.not_reached, "a bound that is not reached"),
+            (self.halves_down, "a half that goes down"),
+            (self.rises, "a rise that lists a zone"),
+            (self.falls, "a fall that lists a zone"),
+        ];
+        for (count, what) in accepted {
+            if count == 0 {
+                missing.push(format!("accepted with {what}"));
+            }
         }
         missing
     }
@@ -363,11 +384,14 @@ impl fmt::Display for Tally {
         write!(
             out,
             "{} calls, accepted {accepted} ({} of them with a bound that is not reached, {} with a \
-             half that goes down) with {} zones and {} stars (at most {} rounds, all within n + d), \
-             {}; {} stretches compared, {} calls passed over for time",
+             half that goes down, {} with a rise and {} with a fall that lists a zone) with {} zones \
+             and {} stars (at most {} rounds, all within n + d), {}; {} stretches compared, {} calls \
+             passed over for time",
             self.calls,
             self.not_reached,
             self.halves_down,
+            self.rises,
+            self.falls,
             self.zones,
             self.stars,
             self.most_rounds,
@@ -381,6 +405,7 @@ impl fmt::Display for Tally {
 #[cfg(test)]
 mod tests {
     use super::*;
+    use crate::examples::{recording, recording_r};
     use crate::recording::tick;
 
     #[test]
@@ -409,10 +434,46 @@ mod tests {
         let mut tally = Tally {
             returned: [1; Refusal::LAST + 1],
             not_reached: 1,
+            rises: 1,
+            falls: 1,
             ..Tally::default()
         };
         assert_eq!(tally.missing(), ["accepted with a half that goes down"]);
         tally.halves_down = 1;
         assert!(tally.missing().is_empty());
+    }
+
+    #[test]
+    fn a_campaign_without_a_rise_or_a_fall_misses_it() {
+        let mut tally = Tally {
+            returned: [1; Refusal::LAST + 1],
+            not_reached: 1,
+            halves_down: 1,
+            ..Tally::default()
+        };
+        let rise = "accepted with a rise that lists a zone";
+        let fall = "accepted with a fall that lists a zone";
+        assert_eq!(tally.missing(), [rise, fall]);
+        tally.rises = 1;
+        assert_eq!(tally.missing(), [fall]);
+        tally.falls = 1;
+        assert!(tally.missing().is_empty());
+    }
+
+    /// On R, `a` rises once and falls once; where it is high from the start on, it only falls.
+    #[test]
+    fn events_count_where_they_list_a_zone() {
+        let counted = |bytes: &[u8], text: &str| {
+            let recording = Recording::read(bytes).expect("a sound recording");
+            let drill = Drill::read(text.as_bytes(), 1).expect(text);
+            [true, false].map(|rise| has_event(&drill, &recording, rise))
+        };
+        let r = recording_r();
+        assert_eq!(counted(&r, "+a"), [true, false]);
+        assert_eq!(counted(&r, "(a.-a)*|_"), [false, true]);
+        assert_eq!(counted(&r, "+a.-a"), [true, true]);
+        assert_eq!(counted(&r, "a.!a"), [false, false]);
+        let from_the_start = recording(100, 1, &[(0, 1), (50, 0)]);
+        assert_eq!(counted(&from_the_start, "+a|-a"), [false, true]);
     }
 }

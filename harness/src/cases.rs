@@ -204,6 +204,10 @@ pub fn all() -> Vec<Case> {
         bounds_not_reached(),
         bounds_refused(),
         halves(),
+        events(),
+        events_hidden(),
+        events_crowded(),
+        events_refused(),
     ];
     groups.into_iter().flatten().collect()
 }
@@ -627,6 +631,120 @@ fn halves() -> Vec<Case> {
         high(100, &[(34, 1), (35, 0)]),
         // A half on either side of a cut.
         Case::new(shared, "a.b|_"),
+    ]);
+    cases
+}
+
+/// Rises and falls on R, with every operator, and on drives with more of them.
+fn events() -> Vec<Case> {
+    let on_r = "+a -a +a.a{0,3} a.-a (+a|-a)* +a{0,0} +a{1,} +a&_ +a{<0,} \
+                +a.-a +a.+a !a.+a.a a.+a +a.a.-a +a.a{2,3}.-a +a.a{<2,<3} (+a.a){3,3} \
+                +a&a +a|a +a|_ -a|+a \
+                +a* (+a|-a|a)* (+a|a)* (+a.a.-a)* (+a|-a|!a)*{1,2} (+a|-a|a|!a)* \
+                (+a.a{0,1}|a{1,1}.-a|!a)* (!a.+a|+a.a{<1,<2}|a{2,2})*";
+    let neighbours = || recording(100, 1, &[(10, 1), (20, 0), (30, 1), (90, 0)]);
+    let sixteen = || recording(100, 16, &[(30, 0x8001), (50, 0x0001), (60, 0x8000)]);
+    // 254 and 255 bytes.
+    let wrapped = format!("{}-a{}", "(".repeat(126), ")".repeat(126));
+    let wrapped_star = format!("{wrapped}*");
+    let mut cases: Vec<Case> = on_r.split_whitespace().map(Case::on_r).collect();
+    cases.extend([
+        Case::new(neighbours(), "+a|-a"),
+        Case::new(neighbours(), "+a.a.-a"),
+        Case::new(neighbours(), "(+a.a.-a|-a.!a.+a)*"),
+        // The bound n + d with the rounds that short pieces after a rise take.
+        Case::new(neighbours(), "(+a.a{0,<1}|a{0,<1})*"),
+        Case::new(two(), "+a|-b"),
+        Case::new(two(), "(+a.a&!b{0,300}).b"),
+        Case::new(two(), "(+a|-a|+b|-b|a&b)*"),
+        Case::new(overlapping(), "((+a|b){0,1}.(a|-b))*"),
+        Case::new(sixteen(), "+p.(p&a).-p"),
+        Case::new(sixteen(), "-a.+p|-a&+p|+j"),
+        Case::on_r(format!("+a{}", "*".repeat(15))),
+        Case::on_r(format!("{}-a{}", "+a|(".repeat(15), ")".repeat(15))),
+        Case::on_r(wrapped),
+        Case::on_r(wrapped_star),
+        Case::on_r("+a").answer(6).work(WORK_WORDS),
+    ]);
+    cases
+}
+
+/// What the levels in two neighbouring ticks make of changes: at the edges of the drive, on one
+/// tick, and of other channels.
+fn events_hidden() -> Vec<Case> {
+    let both = |duration, changes: &[_]| Case::new(recording(duration, 2, changes), "+a|-a");
+    vec![
+        // High from tick 0 on, by its time or by rounding.
+        both(100, &[(0, 1), (50, 0)]),
+        both(100, &[(5, 1)]),
+        // At tick 1 and at d - 1, the first and the last there can be.
+        both(100, &[(6, 1), (94, 0)]),
+        both(20, &[(10, 1)]),
+        // On tick d.
+        both(104, &[(20, 1), (96, 0)]),
+        both(100, &[(95, 1)]),
+        // One tick has no tick beside it.
+        both(10, &[(0, 1)]),
+        both(100, &[]),
+        // Of several changes on one tick the last stands.
+        both(100, &[(48, 1), (52, 0)]),
+        both(100, &[(20, 1), (48, 0), (52, 1)]),
+        both(100, &[(46, 1), (49, 0), (52, 1)]),
+        both(100, &[(20, 1), (46, 0), (49, 1), (52, 0)]),
+        both(100, &[(0, 1), (4, 0), (10, 1)]),
+        // Changes of the other channel, and one of nothing.
+        both(100, &[(10, 2), (30, 3), (40, 1), (50, 1), (60, 0), (70, 2)]),
+        // At either end of the longest drive.
+        both(10_000_000, &[(6, 1), (9_999_994, 0)]),
+        both(10_000_000, &[(20, 1), (9_999_995, 0)]),
+    ]
+}
+
+/// Lists of as many events as there is room for, and of one more.
+fn events_crowded() -> Vec<Case> {
+    // Runs of one tick, a tick apart, the first from tick 0: its rise is no event.
+    let from_0: Vec<(u32, u16)> = (0..258).map(|k| (10 * k, u16::from(k % 2 == 0))).collect();
+    vec![
+        Case::new(pulses(128), "+a"),
+        Case::new(pulses(129), "+a"),
+        Case::new(pulses(129), "-a"),
+        Case::new(recording(2_580, 1, &from_0), "+a"),
+        Case::new(pulses(64), "+a|-a"),
+        Case::new(pulses(65), "+a|-a"),
+        // The diagonal takes the place of all events, so that there is room for it.
+        Case::new(pulses(128), "-a*"),
+        Case::new(pulses(64), "(+a|a)*"),
+        // Too long on the way, whatever would have come of it.
+        Case::new(pulses(129), "-a&a"),
+    ]
+}
+
+/// Drills with a `+` or a `-` that are refused: by 5, by 6, and by what is checked before and after
+/// these.
+fn events_refused() -> Vec<Case> {
+    let of_another_form =
+        "+ - +(a) -(a|a) !+a !-a ++a +-a +!a -!a a+ a+b +_ +* +{1,2} +.a +a- +ab \
+                           +q -A (+ +a) a{1,-2}";
+    let beyond_the_channels = "+b a.-b";
+    let stars = "*".repeat(16);
+    let too_long = format!("{}+a{}", "(".repeat(127), ")".repeat(127));
+    let mut cases: Vec<Case> = Vec::new();
+    for drills in [of_another_form, beyond_the_channels] {
+        cases.extend(drills.split_whitespace().map(Case::on_r));
+    }
+    cases.extend(["+ a", "-\n"].map(Case::on_r));
+    cases.push(Case::new(recording(100, 15, &[(20, 1)]), "+a|+p"));
+    // Several causes at once.
+    cases.extend([
+        Case::on_r(too_long),
+        Case::on_r(format!("+b{{2,1}}{stars}-")),
+        Case::on_r(format!("+a{{2,1}}{stars}.-b")),
+        Case::on_r(format!("+a{{2,1}}{stars}")),
+        Case::on_r(format!("-a{stars}")),
+        Case::on_r(format!("{}-a{}", "+a|(".repeat(16), ")".repeat(16))),
+        Case::on_r("-a").work(0).answer(0),
+        Case::on_r("-a").answer(5),
+        Case::new(pulses(129), "+a").answer(0),
     ]);
     cases
 }

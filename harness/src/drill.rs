@@ -35,6 +35,8 @@ pub enum Drill {
     Empty,
     /// A letter, or `!` and a letter.
     Letter { channel: u8, high: bool },
+    /// `+` or `-` and a letter: the moment when the channel rises or falls.
+    Event { channel: u8, rise: bool },
     /// `.`
     Then(Box<Drill>, Box<Drill>),
     /// `&`
@@ -54,8 +56,7 @@ impl Drill {
             return Err(Refusal::DrillLength);
         }
         let drill = parse(text).ok_or(Refusal::DrillForm)?;
-        let known =
-            |part: &Drill| !matches!(part, Drill::Letter { channel, .. } if *channel >= channels);
+        let known = |part: &Drill| part.channel().is_none_or(|channel| channel < channels);
         if !drill.all(&known) {
             return Err(Refusal::Letter);
         }
@@ -69,9 +70,17 @@ impl Drill {
         Ok(drill)
     }
 
+    /// The channel that the drill itself names, without its operands.
+    fn channel(&self) -> Option<u8> {
+        match self {
+            Drill::Letter { channel, .. } | Drill::Event { channel, .. } => Some(*channel),
+            _ => None,
+        }
+    }
+
     pub fn operands(&self) -> Vec<&Drill> {
         match self {
-            Drill::Empty | Drill::Letter { .. } => vec![],
+            Drill::Empty | Drill::Letter { .. } | Drill::Event { .. } => vec![],
             Drill::Then(left, right) | Drill::Both(left, right) | Drill::Either(left, right) => {
                 vec![left, right]
             }
@@ -113,6 +122,10 @@ impl Drill {
                 text.push_str(if *high { "" } else { "!" });
                 text.push(char::from(b'a' + channel));
             }
+            Drill::Event { channel, rise } => {
+                text.push(if *rise { '+' } else { '-' });
+                text.push(char::from(b'a' + channel));
+            }
             // Joins group to the left, so a right operand of the same join needs brackets.
             Drill::Then(left, right) => {
                 left.write(Level::Sequence, extra, text);
@@ -147,7 +160,7 @@ impl Drill {
             Drill::Both(..) => Level::Conjunction,
             Drill::Then(..) => Level::Sequence,
             Drill::Within(..) | Drill::Star(_) => Level::Repeat,
-            Drill::Empty | Drill::Letter { .. } => Level::Primary,
+            Drill::Empty | Drill::Letter { .. } | Drill::Event { .. } => Level::Primary,
         }
     }
 }
@@ -276,12 +289,26 @@ impl Reader<'_> {
                 let drill = self.alternative()?;
                 self.take(b')').then_some(drill)
             }
-            b'!' => {
-                let name = self.next()?;
-                letter(name, false)
-            }
-            name => letter(name, true),
+            b'!' => self.letter(false),
+            b'+' => self.event(true),
+            b'-' => self.event(false),
+            name => Some(Drill::Letter {
+                channel: channel(name)?,
+                high: true,
+            }),
         }
+    }
+
+    /// The letter after a `!`.
+    fn letter(&mut self, high: bool) -> Option<Drill> {
+        let channel = channel(self.next()?)?;
+        Some(Drill::Letter { channel, high })
+    }
+
+    /// The letter after a `+` or a `-`.
+    fn event(&mut self, rise: bool) -> Option<Drill> {
+        let channel = channel(self.next()?)?;
+        Some(Drill::Event { channel, rise })
     }
 
     /// The band after its opening brace.
@@ -337,9 +364,9 @@ impl Reader<'_> {
     }
 }
 
-fn letter(name: u8, high: bool) -> Option<Drill> {
-    let channel = (b'a'..=b'p').contains(&name).then(|| name - b'a')?;
-    Some(Drill::Letter { channel, high })
+/// The channel that a letter names.
+fn channel(letter: u8) -> Option<u8> {
+    (b'a'..=b'p').contains(&letter).then(|| letter - b'a')
 }
 
 #[cfg(test)]
@@ -380,6 +407,11 @@ mod tests {
             "a{200,<500}",
             "(a.b){<200,<500}*",
             "a{<200,}",
+            "+a",
+            "-p",
+            "+a.a{0,3}",
+            "(+a|-b)*",
+            "!a.+a.(a&-b){0,0}",
         ] {
             assert_eq!(read(text).to_string(), text);
             let bracketed = read(text).text(&mut || 1);
@@ -400,6 +432,61 @@ mod tests {
             assert_eq!(refused(text, 16), None, "{text}");
         }
         assert_eq!(Drill::read(&[0xFF], 16), Err(Refusal::DrillForm));
+    }
+
+    #[test]
+    fn a_plus_or_a_minus_and_a_letter_are_a_primary() {
+        let event = |channel, rise| Drill::Event { channel, rise };
+        let events = [
+            ("+a", 0, true),
+            ("-a", 0, false),
+            ("+p", 15, true),
+            ("-p", 15, false),
+        ];
+        for (text, channel, rise) in events {
+            assert_eq!(read(text), event(channel, rise), "{text}");
+            assert_eq!(read(&format!("({text})")), event(channel, rise), "{text}");
+            assert_eq!(read(text).depth(), 1, "{text}");
+        }
+        // Whatever follows belongs to the event as it does to a letter.
+        assert_eq!(read("+a.a"), read("(+a).a"));
+        assert_eq!(read("a.+a{0,3}*"), read("a.(((+a){0,3})*)"));
+        assert_eq!(read("+a|-a&+b"), read("(+a)|((-a)&(+b))"));
+        assert_ne!(read("+a"), read("-a"));
+        assert_ne!(read("-a"), read("!a"));
+        assert_ne!(read("+a"), read("+b"));
+    }
+
+    #[test]
+    fn a_plus_or_a_minus_stands_directly_before_a_letter_and_nowhere_else() {
+        for sign in ["+", "-"] {
+            for form in [
+                "?", "?(a)", "!?a", "??a", "?!a", "?+a", "?-a", "a?", "a?b", "a?a", "?a?", "?a?b",
+                "?_", "?*", "?*a", "?{1,2}", "?{1,2}a", "?.a", "?|a", "a.?", "(?)a", "(?", "(?a",
+                "?a)", "?)", "?ab", "?a b", "? a", "?a ", " ?a", "?a\n", "?\n", "?A", "?P", "?q",
+                "?z", "?1", "?`", "a{?1,2}", "a{1,?2}", "a{1,2?}", "a{1,2}?", "a*?", "!?", "!(?a)",
+                "?a!", "?é", "_?", "?<a", "a{<?1,2}",
+            ] {
+                let text = form.replace('?', sign);
+                assert_eq!(refused(&text, 16), Some(5), "{text}");
+            }
+        }
+    }
+
+    #[test]
+    fn the_letter_of_an_event_is_one_of_the_channels() {
+        for text in ["+b", "-b", "a.+b", "(+a|-b)*", "+p", "_&-c{0,0}"] {
+            assert_eq!(refused(text, 1), Some(6), "{text}");
+        }
+        for channels in 1..=16 {
+            let last = char::from(b'a' + channels - 1);
+            assert_eq!(refused(&format!("+{last}.-{last}"), channels), None);
+            if channels < 16 {
+                let beyond = char::from(b'a' + channels);
+                assert_eq!(refused(&format!("+a|+{beyond}"), channels), Some(6));
+                assert_eq!(refused(&format!("-{beyond}&-a"), channels), Some(6));
+            }
+        }
     }
 
     #[test]
@@ -510,6 +597,10 @@ mod tests {
         assert_eq!(refused("a{<2,2}.b", 1), Some(6));
         assert_eq!(refused("a{<2,2}*****************", 1), Some(7));
         assert_eq!(refused("a{<2,5}*****************", 1), Some(8));
+        assert_eq!(refused("+b{2,1}.+", 1), Some(5));
+        assert_eq!(refused("+a{2,1}.-b", 1), Some(6));
+        assert_eq!(refused("-a{2,1}*****************", 1), Some(7));
+        assert_eq!(refused("-a{0,0}*****************", 1), Some(8));
         assert_eq!(refused("a*****************", 1), Some(8));
     }
 
@@ -541,8 +632,12 @@ mod tests {
     fn depth_counts_operators_and_no_brackets() {
         assert_eq!(refused(&format!("a{}", "*".repeat(15)), 1), None);
         assert_eq!(refused(&format!("a{}", "*".repeat(16)), 1), Some(8));
+        assert_eq!(refused(&format!("+a{}", "*".repeat(15)), 1), None);
+        assert_eq!(refused(&format!("-a{}", "*".repeat(16)), 1), Some(8));
         let wrapped = format!("{}a{}", "(".repeat(127), ")".repeat(127));
         assert_eq!((wrapped.len(), refused(&wrapped, 1)), (255, None));
         assert_eq!(read("!a.(b|c{1,2})").depth(), 4);
+        assert_eq!(read("+a.(-b|c{1,2})").depth(), 4);
+        assert_eq!(read("+a.-b").depth(), 2);
     }
 }

@@ -237,6 +237,169 @@ mod tests {
         assert!(sheet(&throughout, "(a{0,<1})*").starts_with("zones 2 rounds 11\n"));
     }
 
+    /// The sheet of zones without a star, each given as in its line.
+    fn listed<Line: std::fmt::Display>(zones: &[Line]) -> String {
+        let lines: String = zones.iter().map(|zone| format!("{zone}\n")).collect();
+        format!("zones {} rounds 0\n{lines}", zones.len())
+    }
+
+    /// The line of the stretch of length 0 at a tick.
+    fn moment(tick: u32) -> String {
+        format!("start [{tick},{tick}] end [{tick},{tick}] length [0,0]")
+    }
+
+    /// The sheet of these moments and nothing else.
+    fn moments(ticks: &[u32]) -> String {
+        let lines: Vec<String> = ticks.iter().map(|&tick| moment(tick)).collect();
+        listed(&lines)
+    }
+
+    /// Worked out by hand: on R, `a` rises at 2 and falls at 7.
+    #[test]
+    fn events_of_r() {
+        let (rise, fall) = (moment(2), moment(7));
+        let run = "start [2,7) end (2,7] length (0,5]";
+        let diagonal = "start [0,10] end [0,10] length [0,0]";
+        let table: [(&str, &[&str]); 30] = [
+            ("+a", &[&rise]),
+            ("-a", &[&fall]),
+            ("+a.a{0,3}", &["start [2,2] end (2,5] length (0,3]"]),
+            ("a.-a", &["start [2,7) end [7,7] length (0,5]"]),
+            ("+a{0,0}", &[&rise]),
+            ("+a{0,<1}", &[&rise]),
+            ("+a{1,}", &[]),
+            ("+a{<0,}", &[]),
+            ("+a&_", &[&rise]),
+            ("+a&a", &[]),
+            ("+a&-a", &[]),
+            ("+a|-a", &[&rise, &fall]),
+            ("-a|+a", &[&fall, &rise]),
+            // A moment lies in no zone of a letter, and in the diagonal.
+            ("+a|a", &[&rise, run]),
+            ("a|+a", &[run, &rise]),
+            ("+a|_", &[diagonal]),
+            ("_|+a", &[diagonal]),
+            // The same moment twice, and two moments that nothing joins.
+            ("+a.+a", &[&rise]),
+            ("+a.-a", &[]),
+            ("_.+a._", &[&rise]),
+            // Before a rise `a` is low, and after it high.
+            ("+a.a", &["start [2,2] end (2,7] length (0,5]"]),
+            ("!a.+a", &["start [0,2) end [2,2] length (0,2]"]),
+            ("a.+a", &[]),
+            ("+a.!a", &[]),
+            ("-a.!a", &["start [7,7] end (7,10] length (0,3]"]),
+            ("!a.+a.a", &["start [0,2) end (2,7] length (0,7]"]),
+            // A whole run.
+            ("+a.a.-a", &["start [2,2] end [7,7] length [5,5]"]),
+            ("+a.a{2,3}.-a", &[]),
+            ("(+a.a){3,3}", &["start [2,2] end [5,5] length [3,3]"]),
+            ("+a.a{<2,<3}", &["start [2,2] end (4,5) length (2,3)"]),
+        ];
+        for (drill, zones) in table {
+            assert_eq!(sheet(&recording_r(), drill), listed(zones), "{drill}");
+        }
+    }
+
+    /// By hand: the pieces of R touch only where an event meets its run, and what comes of these lies
+    /// in the run. So the first round changes nothing, and the diagonal takes the place of the events.
+    #[test]
+    fn stars_of_events_of_r() {
+        let run = "start [2,7) end (2,7] length (0,5]\n";
+        let before = "start [0,2) end (0,2] length (0,2]\n";
+        let behind = "start [7,10) end (7,10] length (0,3]\n";
+        let whole = "start [2,2] end [7,7] length [5,5]\n";
+        for (drill, longer) in [
+            ("+a*", vec![]),
+            ("(+a|-a)*", vec![]),
+            ("(+a.-a)*", vec![]),
+            ("(+a|-a|a)*", vec![run]),
+            ("(+a|a)*", vec![run]),
+            ("(a|-a)*", vec![run]),
+            ("(+a|-a|!a)*", vec![before, behind]),
+            ("(+a.a.-a)*", vec![whole]),
+        ] {
+            let (zones, longer) = (longer.len() + 1, longer.concat());
+            let diagonal = "start [0,10] end [0,10] length [0,0]\n";
+            let expected = format!("zones {zones} rounds 1\n{longer}{diagonal}");
+            assert_eq!(sheet(&recording_r(), drill), expected, "{drill}");
+        }
+    }
+
+    /// By hand: the piece of one tick from the rise lies among all pieces of one tick, so the star is
+    /// that of these, and five of them fill the run.
+    #[test]
+    fn a_star_may_start_at_an_event() {
+        let expected = "zones 5 rounds 5\n\
+            start [2,6] end [3,7] length [1,1]\n\
+            start [2,5] end [4,7] length [2,2]\n\
+            start [2,4] end [5,7] length [3,3]\n\
+            start [2,3] end [6,7] length [4,4]\n\
+            start [2,2] end [7,7] length [5,5]\n";
+        let star = sheet(&recording_r(), "(+a.a{1,1}|a{1,1})*{<0,}");
+        assert_eq!(star, expected);
+        // With the rise before the star only what starts there is left.
+        let expected = "zones 5 rounds 5\n\
+            start [2,2] end [3,3] length [1,1]\n\
+            start [2,2] end [4,4] length [2,2]\n\
+            start [2,2] end [5,5] length [3,3]\n\
+            start [2,2] end [6,6] length [4,4]\n\
+            start [2,2] end [7,7] length [5,5]\n";
+        assert_eq!(sheet(&recording_r(), "+a.(a{1,1})*{<0,}"), expected);
+    }
+
+    #[test]
+    fn events_on_neighbouring_ticks() {
+        let neighbours = recording(100, 1, &[(10, 1), (20, 0), (30, 1), (90, 0)]);
+        assert_eq!(sheet(&neighbours, "+a"), moments(&[1, 3]));
+        assert_eq!(sheet(&neighbours, "-a"), moments(&[2, 9]));
+        // Each list by itself is in rising time.
+        assert_eq!(sheet(&neighbours, "+a|-a"), moments(&[1, 3, 2, 9]));
+        let pulse = "start [1,1] end [2,2] length [1,1]";
+        let run = "start [3,3] end [9,9] length [6,6]";
+        assert_eq!(sheet(&neighbours, "+a.a.-a"), listed(&[pulse, run]));
+        let pause = "start [2,2] end [3,3] length [1,1]";
+        assert_eq!(sheet(&neighbours, "-a.!a.+a"), listed(&[pause]));
+        let both = "start [1,1] end [9,9] length [8,8]";
+        assert_eq!(sheet(&neighbours, "+a.a.-a.!a.+a.a.-a"), listed(&[both]));
+    }
+
+    /// Nothing but the levels in the two ticks counts: not how often a channel changed on the way,
+    /// nor a change of another channel, nor what is before tick 0 or behind tick d.
+    #[test]
+    fn what_is_no_event() {
+        for (changes, rises, falls) in [
+            (&[(0, 1), (50, 0)][..], &[][..], &[5][..]),
+            (&[(4, 1), (50, 0)], &[], &[5]),
+            (&[(48, 1), (52, 0)], &[], &[]),
+            (&[(46, 1), (49, 0), (52, 1)], &[5], &[]),
+            (&[(20, 1), (46, 0), (49, 1), (52, 0)], &[2], &[5]),
+            (&[(20, 1), (48, 0), (52, 1)], &[2], &[]),
+            (&[(96, 1)], &[], &[]),
+            (&[(20, 1), (96, 0)], &[2], &[]),
+            (&[(10, 1), (30, 3), (60, 2), (80, 0)], &[1], &[6]),
+            (&[(10, 2), (30, 3), (40, 1), (50, 3)], &[3], &[]),
+        ] {
+            let drive = recording(104, 2, changes);
+            assert_eq!(sheet(&drive, "+a"), moments(rises), "{changes:?}");
+            assert_eq!(sheet(&drive, "-a"), moments(falls), "{changes:?}");
+        }
+    }
+
+    #[test]
+    fn a_list_holds_128_events() {
+        for drill in ["+a", "-a"] {
+            assert!(sheet(&pulses(128), drill).starts_with("zones 128 rounds 0\n"));
+            assert_eq!(number(&pulses(129), drill), 10);
+        }
+        assert!(sheet(&pulses(64), "+a|-a").starts_with("zones 128 rounds 0\n"));
+        assert_eq!(number(&pulses(65), "+a|-a"), 10);
+        // The diagonal removes all events, and so has room.
+        let diagonal = "zones 1 rounds 1\nstart [0,257] end [0,257] length [0,0]\n";
+        assert_eq!(sheet(&pulses(128), "+a*"), diagonal);
+        assert_eq!(number(&pulses(129), "+a&_"), 10);
+    }
+
     #[test]
     fn rounding_reaches_the_zones() {
         let at = |ms| recording(100, 1, &[(ms, 1)]);

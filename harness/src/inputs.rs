@@ -29,7 +29,8 @@ pub fn any(rng: &mut Rng) -> Input {
         damage_recording(rng, &mut input.recording);
     }
     if rng.once_in(6) {
-        damage(rng, &mut input.drill, b"_abcp!()|&.*{},<0123456789q \n\xFF");
+        let alphabet = b"_abcp!+-()|&.*{},<0123456789q \n\xFF";
+        damage(rng, &mut input.drill, alphabet);
     }
     input
 }
@@ -161,7 +162,8 @@ fn deep(rng: &mut Rng) -> Input {
     }
 }
 
-/// Letters and bands that are likely to be wrong, numbers of any length, bounds reached or not.
+/// Letters, events and bands that are likely to be wrong, numbers of any length, bounds reached or
+/// not.
 fn outside(rng: &mut Rng) -> Input {
     let head = small_head(rng);
     let taste = Taste {
@@ -171,7 +173,7 @@ fn outside(rng: &mut Rng) -> Input {
         stars: true,
     };
     let drill = random::drill(rng, taste);
-    let text = match rng.below(6) {
+    let text = match rng.below(8) {
         0 => {
             let (lo, hi) = (digits(rng), digits(rng));
             format!("({drill}){{{}{lo},{}{hi}}}", less(rng), less(rng))
@@ -183,6 +185,8 @@ fn outside(rng: &mut Rng) -> Input {
             format!("({drill}){{{}{number},{}{number}}}", less(rng), less(rng))
         }
         3 | 4 => format!("({drill}){}", near_band(rng)),
+        5 => format!("{}.({drill})", near_event(rng, taste.channels)),
+        6 => format!("({drill})*&{}", near_event(rng, taste.channels)),
         _ => {
             let (lo, hi) = (rng.between(0, 4), rng.between(0, 4));
             let band = Band {
@@ -222,6 +226,23 @@ fn near_band(rng: &mut Rng) -> String {
     text
 }
 
+/// A right event with a byte or two put in or taken out anywhere: a sign may come to stand twice,
+/// after its letter, before another sign or a bracket, or before nothing.
+fn near_event(rng: &mut Rng, channels: u8) -> String {
+    let channel = rng.below(channels.into()) as u8;
+    let mut text = random::event(rng, channel).to_string();
+    for _ in 0..rng.between(1, 2) {
+        let at = rng.below(text.len() as u64 + 1) as usize;
+        if at < text.len() && rng.once_in(3) {
+            text.remove(at);
+        } else {
+            let bytes = ['+', '-', '!', '(', ')', '_', '*', '.', '|', 'a', ' '];
+            text.insert(at, *rng.pick(&bytes));
+        }
+    }
+    text
+}
+
 /// A number as a drill might have it, of any length.
 fn digits(rng: &mut Rng) -> String {
     match rng.below(5) {
@@ -242,9 +263,9 @@ fn digits(rng: &mut Rng) -> String {
     }
 }
 
-/// About as many runs as a list has room for.
+/// About as many runs, or runs and events, as a list has room for.
 fn crowded(rng: &mut Rng) -> Input {
-    let drills = [
+    let once_a_run = [
         "a",
         "!a",
         "a*",
@@ -264,10 +285,39 @@ fn crowded(rng: &mut Rng) -> Input {
         "(a{0,<2})*",
         "(a.!a){<1,<4}",
         "a{<1,}.!a",
+        "+a",
+        "-a",
+        "+a*",
+        "-a|_",
+        "+a.a",
+        "!a.+a",
+        "-a.!a.+a",
+        "+a.a{0,3}.-a",
+        "+a&_",
+        "(+a.a.-a)*",
     ];
+    // Two zones for each run: half as many runs fill a list.
+    let twice_a_run = [
+        "+a|-a",
+        "-a|+a",
+        "a|+a",
+        "-a|a",
+        "!a|-a",
+        "(+a|-a)*",
+        "(a|-a)*",
+        "(+a|!a)*",
+        "(+a.a)|a.-a",
+        "(+a|-a)&_",
+    ];
+    // A few runs are lost where both their changes are on one tick.
+    let (drill, runs) = if rng.once_in(4) {
+        (rng.pick(&twice_a_run), rng.between(64, 70))
+    } else {
+        (rng.pick(&once_a_run), rng.between(126, 138))
+    };
     let mut time = rng.between(0, 30);
     let mut changes = Vec::new();
-    for k in 0..2 * rng.between(124, 132) {
+    for k in 0..2 * runs {
         let levels = (k % 2 == 0).into();
         changes.push(Change { time, levels });
         time += rng.between(6, 50);
@@ -278,7 +328,7 @@ fn crowded(rng: &mut Rng) -> Input {
     };
     Input {
         recording: encode(head, &changes),
-        drill: rng.pick(&drills).as_bytes().to_vec(),
+        drill: drill.as_bytes().to_vec(),
     }
 }
 
@@ -351,6 +401,7 @@ fn damage(rng: &mut Rng, bytes: &mut Vec<u8>, alphabet: &[u8]) {
 #[cfg(test)]
 mod tests {
     use super::*;
+    use crate::finder::{find, WORK_WORDS};
     use crate::recording::times;
     use crate::refusal::Refusal;
 
@@ -372,6 +423,44 @@ mod tests {
                 );
             }
         }
+    }
+
+    /// Texts beside an event are read and refused often enough.
+    #[test]
+    fn signs_come_up_right_and_wrong() {
+        let mut rng = Rng::new(1, 6);
+        let (mut right, mut of_no_form, mut beyond) = (0, 0, 0);
+        for _ in 0..1_000 {
+            match Drill::read(near_event(&mut rng, 3).as_bytes(), 2) {
+                Ok(_) => right += 1,
+                Err(Refusal::DrillForm) => of_no_form += 1,
+                Err(Refusal::Letter) => beyond += 1,
+                Err(_) => (),
+            }
+        }
+        assert!(right > 50, "{right}");
+        assert!(of_no_form > 500, "{of_no_form}");
+        assert!(beyond > 20, "{beyond}");
+    }
+
+    /// Lists of events just fill their room, and just do not.
+    #[test]
+    fn events_come_up_at_the_edge_of_a_list() {
+        let mut rng = Rng::new(1, 7);
+        let events = |drill: &[u8]| matches!(drill, b"+a" | b"-a" | b"+a|-a" | b"-a|+a");
+        let (mut fitting, mut refused) = (0, 0);
+        for _ in 0..2_000 {
+            let Input { recording, drill } = crowded(&mut rng);
+            if !events(&drill) {
+                continue;
+            }
+            let mut answer = [0; 768];
+            let returned = find(&recording, &drill, &mut answer, &mut [0; WORK_WORDS]);
+            fitting += u32::from(returned.zones >= 127);
+            refused += u32::from(returned.number == Refusal::ListFull.number());
+        }
+        assert!(fitting > 10, "{fitting}");
+        assert!(refused > 10, "{refused}");
     }
 
     /// Drills with a `<` are accepted and refused often enough, by 5 and by 7.

@@ -90,7 +90,7 @@ pub fn recording(rng: &mut Rng, head: Head, changes: usize) -> Vec<u8> {
 /// What a random drill may be made of.
 #[derive(Clone, Copy, Debug)]
 pub struct Taste {
-    /// Letters, `!` with its letter and `_` in the drill, at most.
+    /// Letters, alone or after `!`, `+` or `-`, and `_` in the drill, at most.
     pub leaves: u32,
     pub channels: u8,
     /// The highest bound of a band.
@@ -125,9 +125,21 @@ pub fn leaf(rng: &mut Rng, taste: Taste) -> Drill {
     if rng.once_in(12) {
         return Drill::Empty;
     }
+    let channel = rng.below(taste.channels.into()) as u8;
+    if rng.once_in(5) {
+        return event(rng, channel);
+    }
     Drill::Letter {
-        channel: rng.below(taste.channels.into()) as u8,
+        channel,
         high: !rng.once_in(3),
+    }
+}
+
+/// As often a rise as a fall.
+pub fn event(rng: &mut Rng, channel: u8) -> Drill {
+    Drill::Event {
+        channel,
+        rise: rng.once_in(2),
     }
 }
 
@@ -228,6 +240,24 @@ mod tests {
         // Neighbouring ticks with neither of them reached, where only fractions are left.
         let between = |b: &Band| b.hi == Some(Bound::NotReached(b.lo.ticks() + 1));
         assert!(bands.iter().any(|b| between(b) && !b.lo.is_reached()));
+    }
+
+    #[test]
+    fn random_leaves_are_of_every_kind() {
+        let mut rng = Rng::new(1, 6);
+        let taste = Taste {
+            leaves: 1,
+            channels: 2,
+            limit: 12,
+            stars: false,
+        };
+        let leaves: Vec<String> = (0..1_000)
+            .map(|_| leaf(&mut rng, taste).to_string())
+            .collect();
+        for kind in ["_", "a", "b", "!a", "!b", "+a", "+b", "-a", "-b"] {
+            let count = leaves.iter().filter(|leaf| *leaf == kind).count();
+            assert!(count > 25, "{kind} {count}");
+        }
     }
 
     #[test]

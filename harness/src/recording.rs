@@ -269,6 +269,31 @@ impl<'a> Recording<'a> {
         }
         Ok(())
     }
+
+    /// Hands each tick at which a channel rises, or falls, to `found`, in rising time: the ticks of
+    /// the changes that stand and change the channel.
+    pub fn each_event<E>(
+        &self,
+        channel: u8,
+        rise: bool,
+        mut found: impl FnMut(u32) -> Result<(), E>,
+    ) -> Result<(), E> {
+        let mut level = false;
+        for (at, levels) in self.standing() {
+            let next = levels >> channel & 1 == 1;
+            // An event has a tick before it and a tick behind it, so none is at 0 or at d.
+            if next != level && next == rise && 0 < at && at < self.ticks {
+                found(at)?;
+            }
+            level = next;
+        }
+        Ok(())
+    }
+
+    /// Whether a channel rises, or falls, at all.
+    pub fn has_event(&self, channel: u8, rise: bool) -> bool {
+        self.each_event(channel, rise, Err).is_err()
+    }
 }
 
 /// The record at fault is the first that is cut short, or has no room.
@@ -443,6 +468,65 @@ mod tests {
         assert_eq!(runs(&two, 0, true), [(1, 6)]);
         assert_eq!(runs(&two, 1, true), [(3, 10)]);
         assert_eq!(runs(&two, 1, false), [(0, 3)]);
+    }
+
+    /// The ticks at which a channel rises, and those at which it falls.
+    fn events(bytes: &[u8], channel: u8) -> (Vec<u32>, Vec<u32>) {
+        let read = Recording::read(bytes).expect("a sound recording");
+        let of = |rise: bool| {
+            let mut ticks = Vec::new();
+            let all = read.each_event(channel, rise, |tick| {
+                ticks.push(tick);
+                Ok::<(), ()>(())
+            });
+            all.expect("nothing stops the walk");
+            assert_eq!(read.has_event(channel, rise), !ticks.is_empty());
+            ticks
+        };
+        (of(true), of(false))
+    }
+
+    #[test]
+    fn an_event_lies_where_a_run_ends_and_another_starts() {
+        assert_eq!(events(&recording_r(), 0), (vec![2], vec![7]));
+        let neighbours = recording(100, 1, &[(20, 1), (30, 0), (40, 1), (50, 0)]);
+        assert_eq!(events(&neighbours, 0), (vec![2, 4], vec![3, 5]));
+        let two = recording(100, 2, &[(10, 0b01), (30, 0b11), (60, 0b10)]);
+        assert_eq!(events(&two, 0), (vec![1], vec![6]));
+        assert_eq!(events(&two, 1), (vec![3], vec![]));
+    }
+
+    #[test]
+    fn no_event_lies_at_the_start_or_at_the_end() {
+        let from_the_start = recording(100, 1, &[(0, 1), (50, 0)]);
+        assert_eq!(events(&from_the_start, 0), (vec![], vec![5]));
+        // Rounded to tick 0, and to tick 1.
+        assert_eq!(events(&recording(100, 1, &[(5, 1)]), 0), (vec![], vec![]));
+        assert_eq!(events(&recording(100, 1, &[(6, 1)]), 0), (vec![1], vec![]));
+        // Rounded to tick 9, and to tick 10, which is d.
+        assert_eq!(events(&recording(100, 1, &[(94, 1)]), 0), (vec![9], vec![]));
+        assert_eq!(events(&recording(100, 1, &[(95, 1)]), 0), (vec![], vec![]));
+        let fall = |ms| recording(104, 1, &[(20, 1), (ms, 0)]);
+        assert_eq!(events(&fall(94), 0), (vec![2], vec![9]));
+        assert_eq!(events(&fall(97), 0), (vec![2], vec![]));
+        // A drive of one tick has no moment between two ticks.
+        assert_eq!(events(&recording(10, 1, &[(0, 1)]), 0), (vec![], vec![]));
+        assert_eq!(events(&recording(20, 1, &[(10, 1)]), 0), (vec![1], vec![]));
+    }
+
+    #[test]
+    fn a_change_that_others_on_its_tick_hide_is_no_event() {
+        let blip = recording(100, 1, &[(48, 1), (52, 0)]);
+        assert_eq!(events(&blip, 0), (vec![], vec![]));
+        let dip = recording(100, 1, &[(20, 1), (48, 0), (52, 1)]);
+        assert_eq!(events(&dip, 0), (vec![2], vec![]));
+        let thrice = recording(100, 1, &[(46, 1), (49, 0), (52, 1)]);
+        assert_eq!(events(&thrice, 0), (vec![5], vec![]));
+        let hidden = recording(100, 1, &[(46, 0), (49, 1), (52, 0)]);
+        assert_eq!(events(&hidden, 0), (vec![], vec![]));
+        // The high level at tick 0 that another change there takes back.
+        let at_0 = recording(100, 1, &[(0, 1), (4, 0), (10, 1)]);
+        assert_eq!(events(&at_0, 0), (vec![1], vec![]));
     }
 
     #[test]

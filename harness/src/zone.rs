@@ -59,6 +59,18 @@ impl Zone {
         ])
     }
 
+    /// The one stretch of length 0 at s.
+    pub fn moment(s: i32) -> Zone {
+        Zone([
+            reached(s),
+            reached(-s),
+            reached(s),
+            reached(-s),
+            reached(0),
+            reached(0),
+        ])
+    }
+
     /// A zone as it stands in an answer buffer.
     pub fn from_words(words: [i32; WORDS]) -> Zone {
         Zone(words)
@@ -311,6 +323,28 @@ mod tests {
         assert_eq!(run.compose(&run), Some(run));
         assert!(!run.has(2, 2, 1) && run.has(2, 3, 1) && run.has(2, 7, 1));
         assert!(run.has(7, 8, 3) && !run.has(7, 22, 3));
+    }
+
+    #[test]
+    fn a_moment_has_one_stretch() {
+        let moment = Zone::moment(2);
+        assert!(moment.has(12, 12, 6));
+        for (start, end) in [(11, 11), (13, 13), (11, 12), (12, 13), (11, 13)] {
+            assert!(!moment.has(start, end, 6));
+        }
+        // It is tight, and takes nothing away from what it touches but the other stretches.
+        assert_eq!(tighten(*moment.words()), Some(moment));
+        assert_eq!(moment.compose(&moment), Some(moment));
+        assert_eq!(moment.compose(&Zone::moment(3)), None);
+        assert_eq!(moment.meet(&Zone::moment(3)), None);
+        assert_eq!(moment.meet(&Zone::run(2, 7)), None);
+        assert_eq!(moment.meet(&Zone::diagonal(10)), Some(moment));
+        assert!(Zone::diagonal(10).contains(&moment) && !moment.contains(&Zone::diagonal(10)));
+        let run = Zone::run(2, 7);
+        assert_eq!(run.compose(&moment), None);
+        let from_2 = moment.compose(&run).expect("the run starts at 2");
+        assert!(from_2.has(12, 13, 6) && from_2.has(12, 42, 6));
+        assert!(!from_2.has(12, 12, 6) && !from_2.has(13, 14, 6));
     }
 
     #[test]

@@ -146,6 +146,7 @@ impl<'a> Matcher<'a> {
         match drill {
             Drill::Empty => self.diagonal(),
             Drill::Letter { channel, high } => self.runs(*channel, *high),
+            Drill::Event { channel, rise } => self.events(*channel, *rise),
             Drill::Then(left, right) => self.pairs(left, right, Zone::compose),
             Drill::Both(left, right) => self.pairs(left, right, Zone::meet),
             Drill::Either(left, right) => self.either(left, right),
@@ -169,6 +170,13 @@ impl<'a> Matcher<'a> {
         self.recording.each_run(channel, high, |run| {
             list.put(Zone::run(run.start as i32, run.end as i32))
         })?;
+        Ok(list)
+    }
+
+    fn events(&self, channel: u8, rise: bool) -> Result<List, Stop> {
+        let mut list = List::new();
+        self.recording
+            .each_event(channel, rise, |tick| list.put(Zone::moment(tick as i32)))?;
         Ok(list)
     }
 

@@ -28,9 +28,11 @@ use Rattle.expression.specs.Grammar.{
   underline,
   letter,
   exclamation,
+  plus,
+  minus,
   brackets,
 }
-use Rattle.tokens.specs.Tokens.{Got, no, yes, branch, bind, starts, rest, expect, postfix}
+use Rattle.tokens.specs.Tokens.{signed, Got, no, yes, branch, bind, starts, rest, expect, postfix}
 use Rattle.descent.specs.Descent.{symbol, Rank, joining, repeating, single, below, descent}
 use Rattle.tokens.proofs.Text.{yes-value}
 use Rattle.descent.proofs.Sound.{sound}
@@ -99,7 +101,7 @@ rank repeat = repeating
 rank primary = single
 
 complete : {l : Level} {s : List ℕ} {e : Expression} → Form l s e → Reads (rank l) s e
-unfolding bind branch expect starts rest
+unfolding bind branch expect starts rest signed
 complete (conjunction-alone {s = s} {e = e} f) = reads-alone Union s e (complete f)
 complete (bar {s = s} {u = u} {e = e} {f = f} p q) = reads-also Union s u e f (complete p) (complete q)
 complete (sequence-alone {s = s} {e = e} f) = reads-alone Intersection s e (complete f)
@@ -116,8 +118,12 @@ complete (letter {k = k} h) = λ r z.
     let a : (97 + k ≡ 95) → ⊥ = omega arith in
     let b : (97 + k ≡ 40) → ⊥ = omega arith in
     let c : (97 + k ≡ 33) → ⊥ = omega arith in
-    single-is ((97 + k) ∷ r) ∙ rw (ne-eqb _ _ a, ne-eqb _ _ b, ne-eqb _ _ c, ranged-on 97 16 k r h)
+    let d : (97 + k ≡ 43) → ⊥ = omega arith in
+    let e : (97 + k ≡ 45) → ⊥ = omega arith in
+    single-is ((97 + k) ∷ r) ∙ rw (ne-eqb _ _ a, ne-eqb _ _ b, ne-eqb _ _ c, ne-eqb _ _ d, ne-eqb _ _ e, ranged-on 97 16 k r h)
 complete (exclamation {k = k} h) = λ r z. single-is (33 ∷ (97 + k) ∷ r) ∙ rw (ranged-on 97 16 k r h)
+complete (plus {k = k} h) = λ r z. single-is (43 ∷ (97 + k) ∷ r) ∙ rw (ranged-on 97 16 k r h)
+complete (minus {k = k} h) = λ r z. single-is (45 ∷ (97 + k) ∷ r) ∙ rw (ranged-on 97 16 k r h)
 complete (brackets {s = s} {e = e} f) = λ r z.
     single-is (40 ∷ ((s ++ (41 ∷ [])) ++ r)) ∙ rw (append-assoc, complete f (41 ∷ r) (by-bracket r), joins-off Union e (41 ∷ r) refl)
 

@@ -8,12 +8,12 @@ use Prim.Native.Char.{code}
 use Rattle.expression.specs.declared.Range.{Range}
 use Rattle.expression.specs.declared.End.the-variants.{Closed, Open}
 use Rattle.expression.specs.declared.Upper.the-variants.{Endless, UpTo}
-use Rattle.expression.specs.declared.Sign.the-variants.{High, Low}
+use Rattle.expression.specs.declared.Sign.the-variants.{High, Low, Rise, Fall}
 use Rattle.expression.specs.declared.Join.the-variants.{Union, Intersection, Concatenation}
 use Rattle.expression.specs.declared.Unary.the-variants.{Star, Band}
 use Rattle.expression.specs.Expression.{Expression, epsilon, literal, join, unary}
 use Rattle.expression.specs.Grammar.{Form, alternative}
-use Rattle.tokens.specs.Tokens.{Got, no, yes, branch, bind, starts, rest, expect, ranged, digits, numeral, numbered, bound, upperEnd, limits}
+use Rattle.tokens.specs.Tokens.{Got, no, yes, branch, bind, starts, rest, expect, ranged, signed, digits, numeral, numbered, bound, upperEnd, limits}
 use Rattle.descent.specs.Descent.{postfixes, joining, read, height, descent}
 use Rattle.expression.proofs.Ranges.{false-true}
 use Rattle.descent.proofs.Complete.{whole-sound, whole-complete}
@@ -54,8 +54,12 @@ pub drills : Is "_" epsilon × Is "p" (literal High 15) × Is "!p" (literal Low 
     × Is "((a))" a × Is "a{10,205}" (unary (Band (within 10 205)) a)
     × Is "a{<2,5}" (unary (Band (record { lo = Open 2; hi = UpTo (Closed 5) })) a) × Is "a{2,<5}" (unary (Band (record { lo = Closed 2; hi = UpTo (Open 5) })) a)
     × Is "a{<2,<50}" (unary (Band (record { lo = Open 2; hi = UpTo (Open 50) })) a) × Is "a{<200,}" (unary (Band (record { lo = Open 200; hi = Endless })) a)
-unfolding descent read height branch bind starts rest expect ranged digits numeral numbered bound upperEnd limits postfixes
+    × Is "+a" (literal Rise 0) × Is "-p" (literal Fall 15) × Is "+a.-a{0,0}" (join Concatenation (literal Rise 0) (unary (Band (within 0 0)) (literal Fall 0)))
+unfolding descent read height branch bind starts rest expect ranged signed digits numeral numbered bound upperEnd limits postfixes
 drills = (
+  whole-sound _ _ refl,
+  whole-sound _ _ refl,
+  whole-sound _ _ refl,
   whole-sound _ _ refl,
   whole-sound _ _ refl,
   whole-sound _ _ refl,
@@ -76,11 +80,22 @@ drills = (
   whole-sound _ _ refl,
 )
 
--- A leading zero, a missing lo, comma, brace or operand, blanks, letters beyond `p`, and a `<` without a number behind it are not of the form.
+-- A leading zero, a missing lo, comma, brace or operand, blanks, letters beyond `p`, a `<` without a number behind it,
+-- and a sign without a letter behind it are not of the form.
 pub no-drills : None "a{01,2}" × None "a{,2}" × None "a{2}" × None "()" × None "a b" × None "q" × None "!_" × None "a." × None "|a" × None "a&" × None "a{1,2" × None "(a" × None "a)"
     × None "a{2,<}" × None "a{<,5}" × None "a{<02,5}" × None "a{<<2,5}" × None "a{2<,5}" × None "a{< 2,5}" × None "a{2,5<}"
-unfolding descent read height branch bind starts rest expect ranged digits numeral numbered bound upperEnd limits postfixes leftover
+    × None "+" × None "+(a)" × None "!+a" × None "++a" × None "+!a" × None "-" × None "a+" × None "+_" × None "+q"
+unfolding descent read height branch bind starts rest expect ranged signed digits numeral numbered bound upperEnd limits postfixes leftover
 no-drills = (
+  none _ refl,
+  none _ refl,
+  none _ refl,
+  none _ refl,
+  none _ refl,
+  none _ refl,
+  none _ refl,
+  none _ refl,
+  none _ refl,
   none _ refl,
   none _ refl,
   none _ refl,

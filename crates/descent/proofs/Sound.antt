@@ -1,11 +1,13 @@
 -- What recursive descent reads is of the grammar.
 use mathlib.Core.Path.{_≡_, sym, ap, subst, _∙_, refl}
+use mathlib.Core.Bool.{true}
 use mathlib.Core.List.{List, [], _∷_, _++_, append-assoc, append-nil}
 use mathlib.Core.Logic.{⊎-elim, _⊎_, inl, inr}
 use Prim.Native.Nat.{ℕ, zero, suc, _+_, _<_}
 use native.Mathlib.Omega.{arith}
 use lib.ListN.{length, length-append}
-use Rattle.expression.specs.declared.Sign.the-variants.{High, Low}
+use Rattle.expression.specs.declared.Sign.{Sign}
+use Rattle.expression.specs.declared.Sign.the-variants.{High, Low, Rise, Fall}
 use Rattle.expression.specs.declared.Join.{Join}
 use Rattle.expression.specs.declared.Join.the-variants.{Union, Intersection, Concatenation}
 use Rattle.expression.specs.declared.Unary.{Unary}
@@ -30,9 +32,11 @@ use Rattle.expression.specs.Grammar.{
   underline,
   letter,
   exclamation,
+  plus,
+  minus,
   brackets,
 }
-use Rattle.tokens.specs.Tokens.{yes, bind, rest, ranged, postfix, lettered, Got, no}
+use Rattle.tokens.specs.Tokens.{yes, bind, starts, rest, ranged, postfix, signed, lettered, Got, no}
 use Rattle.tokens.proofs.Text.{no-yes, yes-text, yes-value, bind-yes, branch-split, starts-is}
 use Rattle.tokens.proofs.Grammar.{expect-sound, ranged-sound, limits-sound}
 use Rattle.descent.specs.Descent.{postfixes, symbol, Rank, joining, repeating, single, below, read, joins, perhaps}
@@ -76,6 +80,8 @@ some (braces f g) = simp length-append (omega arith)
 some underline = omega arith
 some (letter h) = omega arith
 some (exclamation h) = omega arith
+some (plus h) = omega arith
+some (minus h) = omega arith
 some (brackets f) = omega arith
 
 -- the part of s before r, which is the expression e at the level l
@@ -135,12 +141,34 @@ letter-sound s t r f w g e =
       subst (λ (x : Expression). Form primary (w ++ ((97 + b .0) ∷ [])) x) (yes-value (b .3)) (g (b .0) (h .0)),
     )
 
+-- the part of s before t is a sign, which with any letter after it is a primary
+abbrev Signs : List ℕ → Sign → List ℕ → Type 0
+Signs s g t = (w : List ℕ) × (s ≡ w ++ t) × ((k : ℕ) → k < 16 → Form primary (w ++ ((97 + k) ∷ [])) (literal g k))
+
+signed-sound : (s : List ℕ) (g : Sign) (t : List ℕ) → signed s ≡ yes g t → Signs s g t
+unfolding signed
+signed-sound s g t e =
+    ⊎-elim (λ x. sign 33 Low (λ k l. exclamation l) x)
+    (λ x. ⊎-elim (λ y. sign 43 Rise (λ k l. plus l) y)
+    (λ y. ⊎-elim (λ z. sign 45 Fall (λ k l. minus l) z) (λ z. before [] High (λ k l. letter l) refl (z .1)) (branch-split _ _ _ (y .1)))
+    (branch-split _ _ _ (x .1)))
+    (branch-split _ _ _ e)
+  where
+    before : (w : List ℕ) {u : List ℕ} (h : Sign) → ((k : ℕ) → k < 16 → Form primary (w ++ ((97 + k) ∷ [])) (literal h k))
+        → s ≡ w ++ u → yes h u ≡ yes g t → Signs s g t
+    before w h f m q =
+        (w, m ∙ ap (λ (x : List ℕ). w ++ x) (yes-text q), λ k l. subst (λ (x : Sign). Form primary (w ++ ((97 + k) ∷ [])) (literal x k)) (yes-value q) (f k l))
+
+    sign : (c : ℕ) (h : Sign) → ((k : ℕ) → k < 16 → Form primary (c ∷ (97 + k) ∷ []) (literal h k))
+        → (starts c s ≡ true) × (yes h (rest s) ≡ yes g t) → Signs s g t
+    sign c h f x = before (c ∷ []) h f (starts-is c s (x .0)) (x .1)
+
 lettered-sound : (s : List ℕ) (t : Expression) (r : List ℕ) → lettered s ≡ yes t r → Before primary s t r
 lettered-sound s t r e =
-    ⊎-elim
-    (λ x. let h = letter-sound (rest s) t r (literal Low) (33 ∷ []) (λ k l. exclamation l) (x .1) in (h .0, starts-is 33 s (x .0) ∙ h .1, h .2))
-    (λ x. letter-sound s t r (literal High) [] (λ k l. letter l) (x .1))
-    (branch-split _ _ _ e)
+    let b = bind-yes _ _ e in
+    let w = signed-sound s (b .0) (b .1) (b .2) in
+    let h = letter-sound (b .1) t r (literal (b .0)) (w .0) (w .2) (b .3) in
+    (h .0, w .1 ∙ h .1, h .2)
 
 mutual
   unfolding read

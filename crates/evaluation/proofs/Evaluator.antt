@@ -7,6 +7,7 @@ use native.Mathlib.Omega.{arith}
 use lib.IntN.{ℤ}
 use lib.ListN.{length}
 use Rattle.zone.specs.declared.Zone.{Zone}
+use Rattle.zone.proofs.Laws.{proper-within}
 use Rattle.list.specs.Slots.{slot-words, listAt, Kept, Sound, Source}
 use Rattle.list.proofs.Slots.{kept-within, listAt-kept}
 use Rattle.runs.specs.Levels.{Shows}
@@ -25,7 +26,7 @@ use Rattle.values.specs.declared.Evaluated.{Evaluated}
 use Rattle.values.specs.declared.Evaluated.the-variants.{Listed, Overflow}
 use Rattle.meaning.proofs.Evaluation.{evaluates-well}
 use Rattle.evaluation.proofs.Rounds.{rounds-few}
-use Rattle.values.proofs.Standings.{sound-within}
+use Rattle.values.proofs.Standings.{evaluated-map}
 use Rattle.primaries.proofs.Windows.{looks-ticks}
 
 -- what node i says of its expression, as the code finds the node
@@ -73,10 +74,6 @@ module _ {d : ℕ} (some : 0 < d) (base : ℕ) where
 
 -- ---- values of operands
 
-evaluated-map : (P Q : Value → Type 0) (ws : List ℤ) (base : ℕ) → ((v : Value) → P v → Q v) → (r : Evaluated) → EvaluatedAs P ws base r → EvaluatedAs Q ws base r
-evaluated-map P Q ws base f (Listed n k) s = record { list = s .list; means = f _ (s .means); holds = s .holds }
-evaluated-map P Q ws base f Overflow s = f overflow s
-
 module _ {bytes : List ℕ} {window : Window} (looks : Looks bytes window) where
   -- the expression comes to the value in this window
   abbrev pub Comes : Expression → Value → Type 0
@@ -87,7 +84,7 @@ module _ {bytes : List ℕ} {window : Window} (looks : Looks bytes window) where
     pub operand-sound : Sound (listAt ws base n)
     operand-sound =
         subst Sound (sym (s .holds .zones))
-        (λ z m. sound-within (looks-ticks looks .small) (evaluates-well (Shows bytes) (looks-ticks looks .forward) f p (s .means) .proper z m))
+        (λ z m. proper-within (omega arith) (looks-ticks looks .small) (evaluates-well (Shows bytes) (looks-ticks looks .forward) f p (s .means) .proper z m))
 
     -- and its rounds are few
     pub operand-rounds : {ns : List ℕ} {channels i d : ℕ} → Planted ns channels i d f → d ≤ 16 → p ≤ most-rounds

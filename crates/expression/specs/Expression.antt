@@ -3,7 +3,7 @@ use Prim.Native.Nat.{ℕ, suc, max}
 use mathlib.Core.List.{List, [], _∷_, _++_}
 use Rattle.expression.specs.declared.Range.{Range}
 pub use Rattle.expression.specs.declared.Sign.{Sign}
-pub use Rattle.expression.specs.declared.Sign.the-variants.{High, Low}
+pub use Rattle.expression.specs.declared.Sign.the-variants.{High, Low, Rise, Fall}
 pub use Rattle.expression.specs.declared.Join.{Join}
 pub use Rattle.expression.specs.declared.Join.the-variants.{Union, Intersection, Concatenation}
 pub use Rattle.expression.specs.declared.Unary.{Unary}
@@ -13,14 +13,14 @@ pub use Rattle.expression.specs.declared.Unary.the-variants.{Star, Band}
 pub data Expression : Type 0 where
   -- `_`
   epsilon : Expression
-  -- a letter, and `!` and a letter
+  -- a letter, and `!`, `+` or `-` and a letter
   literal : Sign → ℕ → Expression
   -- `|`, `&` and `.`
   join : Join → Expression → Expression → Expression
   -- `*` and `{lo,hi}`
   unary : Unary → Expression → Expression
 
--- "a letter, `!` with its letter, or `_` has 1, an operator one more than its deepest operand"
+-- "a letter, `!` with its letter, or `_` has 1, an operator one more than its deepest operand"; `+` and `-` with their letter have "depth 1"
 unfoldable pub depth : Expression → ℕ
 depth epsilon = 1
 depth (literal s k) = 1

@@ -1,12 +1,12 @@
 -- Document 01's grammar: `Form l text e` says that the text is of the level l, and that it is the expression e.
--- Bytes: 33 `!`, 38 `&`, 40 `(`, 41 `)`, 42 `*`, 44 `,`, 46 `.`, 48 `0`, 60 `<`, 95 `_`, 97 `a`, 123 `{`, 124 `|`, 125 `}`.
+-- Bytes: 33 `!`, 38 `&`, 40 `(`, 41 `)`, 42 `*`, 43 `+`, 44 `,`, 45 `-`, 46 `.`, 48 `0`, 60 `<`, 95 `_`, 97 `a`, 123 `{`, 124 `|`, 125 `}`.
 use Prim.Native.Nat.{ℕ, _+_, _*_, _<_}
 use mathlib.Core.List.{List, [], _∷_, _++_}
 use Rattle.expression.specs.declared.Range.{Range}
 use Rattle.expression.specs.declared.End.{End}
 use Rattle.expression.specs.declared.End.the-variants.{Closed, Open}
 use Rattle.expression.specs.declared.Upper.the-variants.{Endless, UpTo}
-use Rattle.expression.specs.Expression.{Expression, epsilon, High, Low, literal, Union, Intersection, Concatenation, join, Star, Band, unary}
+use Rattle.expression.specs.Expression.{Expression, epsilon, High, Low, Rise, Fall, literal, Union, Intersection, Concatenation, join, Star, Band, unary}
 
 -- "decimal, without a leading zero unless 0 itself": a digit goes after a number that is not 0
 pub data Number : List ℕ → ℕ → Type 0 where
@@ -49,4 +49,7 @@ pub data Form : Level → List ℕ → Expression → Type 0 where
   underline : Form primary (95 ∷ []) epsilon
   letter : {k : ℕ} → k < 16 → Form primary ((97 + k) ∷ []) (literal High k)
   exclamation : {k : ℕ} → k < 16 → Form primary (33 ∷ (97 + k) ∷ []) (literal Low k)
+  -- "`+a` .. `-a` the opposite. Both are primaries"
+  plus : {k : ℕ} → k < 16 → Form primary (43 ∷ (97 + k) ∷ []) (literal Rise k)
+  minus : {k : ℕ} → k < 16 → Form primary (45 ∷ (97 + k) ∷ []) (literal Fall k)
   brackets : {s : List ℕ} {e : Expression} → Form alternative s e → Form primary (40 ∷ (s ++ (41 ∷ []))) e

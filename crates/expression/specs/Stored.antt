@@ -11,7 +11,7 @@ use Rattle.expression.specs.declared.Upper.{Upper}
 use Rattle.expression.specs.declared.Upper.the-variants.{Endless, UpTo}
 use Rattle.expression.specs.declared.Node.{Node}
 use Rattle.expression.specs.declared.Node.the-variants.{Epsilon, Literal, Infix, Applied}
-use Rattle.expression.specs.Expression.{Expression, epsilon, Sign, High, Low, literal, Join, Union, Intersection, Concatenation, join, Unary, Star, Band, unary}
+use Rattle.expression.specs.Expression.{Expression, epsilon, Sign, High, Low, Rise, Fall, literal, Join, Union, Intersection, Concatenation, join, Unary, Star, Band, unary}
 
 -- the node of a band
 abbrev pub bandNode : End → Upper → ℕ → Node
@@ -22,16 +22,18 @@ unfoldable pub decoded : ℕ → ℕ → ℕ → ℕ → Node
 decoded op x y z =
     cond (eqb op 1) (Literal High x)
     (cond (eqb op 2) (Literal Low x)
-    (cond (eqb op 3) (Infix Union x y)
-    (cond (eqb op 4) (Infix Intersection x y)
-    (cond (eqb op 5) (Infix Concatenation x y)
-    (cond (eqb op 6) (Applied Star x)
-    (cond (eqb op 7) (bandNode (Closed y) Endless x)
-    (cond (eqb op 8) (bandNode (Open y) Endless x)
-    (cond (eqb op 9) (bandNode (Closed y) (UpTo (Closed z)) x)
-    (cond (eqb op 10) (bandNode (Closed y) (UpTo (Open z)) x)
-    (cond (eqb op 11) (bandNode (Open y) (UpTo (Closed z)) x)
-    (cond (eqb op 12) (bandNode (Open y) (UpTo (Open z)) x) Epsilon)))))))))))
+    (cond (eqb op 3) (Literal Rise x)
+    (cond (eqb op 4) (Literal Fall x)
+    (cond (eqb op 5) (Infix Union x y)
+    (cond (eqb op 6) (Infix Intersection x y)
+    (cond (eqb op 7) (Infix Concatenation x y)
+    (cond (eqb op 8) (Applied Star x)
+    (cond (eqb op 9) (bandNode (Closed y) Endless x)
+    (cond (eqb op 10) (bandNode (Open y) Endless x)
+    (cond (eqb op 11) (bandNode (Closed y) (UpTo (Closed z)) x)
+    (cond (eqb op 12) (bandNode (Closed y) (UpTo (Open z)) x)
+    (cond (eqb op 13) (bandNode (Open y) (UpTo (Closed z)) x)
+    (cond (eqb op 14) (bandNode (Open y) (UpTo (Open z)) x) Epsilon)))))))))))))
 
 -- node n of the buffer; past its end every word is 0
 unfoldable pub nodeAt : List ℕ → ℕ → Node

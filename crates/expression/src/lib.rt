@@ -30,10 +30,12 @@ pub struct Range {
     pub hi: Upper,
 }
 
-// What a letter asks of its channel.
+// What a letter asks of its channel: a level, or the moment when the level goes over.
 pub enum Sign {
     High,
     Low,
+    Rise,
+    Fall,
 }
 
 // The joins: `|`, `&` and `.`.
@@ -140,16 +142,18 @@ fn node_of(op: u32, x: u32, y: u32, z: u32) -> Node
     match op {
         1 => Node::Literal(Sign::High, x),
         2 => Node::Literal(Sign::Low, x),
-        3 => Node::Infix(Join::Union, x, y),
-        4 => Node::Infix(Join::Intersection, x, y),
-        5 => Node::Infix(Join::Concatenation, x, y),
-        6 => Node::Applied(Unary::Star, x),
-        7 => band_node(End::Closed(y), Upper::Endless, x),
-        8 => band_node(End::Open(y), Upper::Endless, x),
-        9 => band_node(End::Closed(y), Upper::UpTo(End::Closed(z)), x),
-        10 => band_node(End::Closed(y), Upper::UpTo(End::Open(z)), x),
-        11 => band_node(End::Open(y), Upper::UpTo(End::Closed(z)), x),
-        12 => band_node(End::Open(y), Upper::UpTo(End::Open(z)), x),
+        3 => Node::Literal(Sign::Rise, x),
+        4 => Node::Literal(Sign::Fall, x),
+        5 => Node::Infix(Join::Union, x, y),
+        6 => Node::Infix(Join::Intersection, x, y),
+        7 => Node::Infix(Join::Concatenation, x, y),
+        8 => Node::Applied(Unary::Star, x),
+        9 => band_node(End::Closed(y), Upper::Endless, x),
+        10 => band_node(End::Open(y), Upper::Endless, x),
+        11 => band_node(End::Closed(y), Upper::UpTo(End::Closed(z)), x),
+        12 => band_node(End::Closed(y), Upper::UpTo(End::Open(z)), x),
+        13 => band_node(End::Open(y), Upper::UpTo(End::Closed(z)), x),
+        14 => band_node(End::Open(y), Upper::UpTo(End::Open(z)), x),
         _ => Node::Epsilon,
     }
 }
@@ -173,17 +177,17 @@ fn band_words(lo: End, hi: Upper, operand: u32) -> Words
 {
     match hi {
         Upper::Endless => match lo {
-            End::Closed(n) => Words(7, operand, n, 0),
-            End::Open(n) => Words(8, operand, n, 0),
+            End::Closed(n) => Words(9, operand, n, 0),
+            End::Open(n) => Words(10, operand, n, 0),
         },
         Upper::UpTo(end) => match lo {
             End::Closed(n) => match end {
-                End::Closed(m) => Words(9, operand, n, m),
-                End::Open(m) => Words(10, operand, n, m),
-            },
-            End::Open(n) => match end {
                 End::Closed(m) => Words(11, operand, n, m),
                 End::Open(m) => Words(12, operand, n, m),
+            },
+            End::Open(n) => match end {
+                End::Closed(m) => Words(13, operand, n, m),
+                End::Open(m) => Words(14, operand, n, m),
             },
         },
     }
@@ -198,14 +202,16 @@ fn words_of(node: Node) -> Words
         Node::Literal(sign, channel) => match sign {
             Sign::High => Words(1, channel, 0, 0),
             Sign::Low => Words(2, channel, 0, 0),
+            Sign::Rise => Words(3, channel, 0, 0),
+            Sign::Fall => Words(4, channel, 0, 0),
         },
         Node::Infix(join, left, right) => match join {
-            Join::Union => Words(3, left, right, 0),
-            Join::Intersection => Words(4, left, right, 0),
-            Join::Concatenation => Words(5, left, right, 0),
+            Join::Union => Words(5, left, right, 0),
+            Join::Intersection => Words(6, left, right, 0),
+            Join::Concatenation => Words(7, left, right, 0),
         },
         Node::Applied(op, operand) => match op {
-            Unary::Star => Words(6, operand, 0, 0),
+            Unary::Star => Words(8, operand, 0, 0),
             Unary::Band(range) => {
                 let lo = range.lo;
                 let hi = range.hi;

@@ -48,6 +48,8 @@ fn print_sign(sign: Sign) {
     match sign {
         Sign::High => {}
         Sign::Low => print(b"!"),
+        Sign::Rise => print(b"+"),
+        Sign::Fall => print(b"-"),
     }
 }
 

@@ -2,7 +2,7 @@
 use mathlib.Core.Path.{_≡_, refl, sym, subst}
 use mathlib.Core.Bool.{true, false}
 use mathlib.Core.List.{List, [], _∷_, _++_, List·Memᴰ, List·Memᴰ·head, List·Memᴰ·tail, List·Memᴰ·not-nil as not-nil}
-use Prim.Native.Nat.{ℕ, _*_, _≤_}
+use Prim.Native.Nat.{ℕ, _+_, _-_, _*_, _≤_, min}
 use native.Mathlib.Omega.{arith}
 use borrow.Author.Tests.{ltb-true, ltb-false, leb-true}
 use lib.Dec.{leb, ltb}
@@ -16,20 +16,24 @@ use Rattle.list.specs.Insert.{covered, outside, insert, insert-each}
 use Rattle.pairs.specs.Pairs.{pairs}
 use Rattle.operators.specs.Operators.{union as unite, meets, compositions, banded}
 use Rattle.recording.specs.Reading.{tick, le16, le32, ticks, channels}
+use Rattle.runs.specs.declared.Level.{Level}
 use Rattle.runs.specs.Levels.{Shows}
+use Rattle.runs.specs.Search.{other}
 use Rattle.runs.specs.Runs.{Runs}
+use Rattle.runs.specs.Events.{Events}
 use Rattle.runs.specs.declared.Run.{Run}
 use Rattle.recording.specs.declared.Reading.the-variants.{Recorded}
+use Rattle.runs.proofs.Events.{endsBefore, shows-events}
 use Rattle.runs.proofs.Examples.{R as example}
 use Rattle.expression.specs.Expression.{Expression, depth}
 use Rattle.expression.specs.Refusal.{Accepted}
-use Rattle.tokens.specs.Tokens.{yes, branch, bind, starts, rest, expect, ranged, digits, numeral, numbered, bound, upperEnd, limits}
+use Rattle.tokens.specs.Tokens.{yes, branch, bind, starts, rest, expect, ranged, signed, digits, numeral, numbered, bound, upperEnd, limits}
 use Rattle.descent.specs.Descent.{postfixes, joining, read, height, descent}
 use Rattle.expression.specs.declared.Join.the-variants.{Union as bars}
 use Rattle.parser.specs.Readers.{width, wrong}
 use Rattle.descent.proofs.Complete.{whole-sound}
 use Rattle.parser.proofs.Parses.{right-length, accepted}
-use Rattle.meaning.specs.Lists.{value, ended, Then.goes, runZones, Letter, Evaluates}
+use Rattle.meaning.specs.Lists.{value, ended, Then.goes, runZones, Letter, momentZones, Moments, Evaluates}
 use Rattle.outcome.specs.declared.Outcome.the-variants.{Finished}
 use Rattle.calls.specs.Outcome.{Comes, room, words, fronted, cleared, FindAs}
 use Rattle.marked.specs.Marked.{R, Row, marked, Gives, RowHolds}
@@ -82,6 +86,19 @@ gives {text} {e} {L} {r} form pass evaluates answer work long roomy =
 spelt : {P : ℕ → Type 0} {rs : List Run} → Runs P 0 (ticks R) rs → Letter P 0 (ticks R) (ended (insert-each (runZones rs) []) 0)
 spelt m = record { runs = _; maximal = m; built = refl }
 
+-- The list of an event, from the runs that it ends.
+went-over : {level : Level} {rs : List Run} → Runs (Shows R 0 level) 0 (ticks R) rs
+    → Moments (Shows R 0 level) (Shows R 0 (other level)) 0 (ticks R) (ended (insert-each (momentZones (endsBefore (ticks R) rs)) []) 0)
+went-over {level} {rs} m =
+    let first : 0 ≡ 0 - 1 = omega arith in
+    let last : ticks R ≡ min (ticks R + 1) (ticks R) = omega arith in
+    let looked = subst (λ (n : ℕ). Runs (Shows R 0 level) n (min (ticks R + 1) (ticks R)) rs) first (subst (λ (n : ℕ). Runs (Shows R 0 level) 0 n rs) last m) in
+    record {
+      at = endsBefore (ticks R) rs;
+      events = subst (λ (n : ℕ). Events (Shows R 0 level) (Shows R 0 (other level)) 0 (ticks R) (endsBefore n rs)) (sym last) (shows-events R 0 level 0 (ticks R) looked);
+      built = refl;
+    }
+
 -- ---- the table
 
 -- every row of a list holds
@@ -95,14 +112,16 @@ each done m = absurd (not-nil m)
 each (h ⨾ hs) (List·Memᴰ·head e) = subst RowHolds (sym e) h
 each (h ⨾ hs) (List·Memᴰ·tail m) = each hs m
 
--- Every row of the table holds. A drill's proof is that its text is read, that it passes the tests, and how its list comes of those of `a` and
--- `!a`; the rest is computed.
+-- Every row of the table holds. A drill's proof is that its text is read, that it passes the tests, and how its list comes of those of `a`,
+-- `!a`, `+a` and `-a`; the rest is computed.
 pub marked-set : (x : Row) → List·Memᴰ x marked → RowHolds x
-unfolding tick le32 le16 descent read height branch bind starts rest expect ranged digits numeral numbered bound upperEnd limits postfixes width wrong depth
-    lesser _⊕_ tighter where-room tighten both meet across compose run diagonal everything limited bandOf covered outside insert insert-each unite pairs meets compositions banded
+unfolding tick le32 le16 descent read height branch bind starts rest expect ranged signed digits numeral numbered bound upperEnd limits postfixes width wrong depth
+    lesser _⊕_ tighter where-room tighten both meet across compose run diagonal everything limited bandOf covered outside insert insert-each endsBefore unite pairs meets compositions banded
 marked-set x =
     let a = spelt (example .highs-are) in
     let not-a = spelt (example .lows-are) in
+    let rise = went-over (example .lows-are) in
+    let fall = went-over (example .highs-are) in
     each
     (gives refl refl a
     ⨾ gives refl refl (goes a (goes a refl))
@@ -117,6 +136,11 @@ marked-set x =
     ⨾ gives refl refl (goes a refl)
     ⨾ gives refl refl (goes a (goes not-a refl))
     ⨾ gives refl refl refl
+    ⨾ gives refl refl rise
+    ⨾ gives refl refl fall
+    ⨾ gives refl refl (goes rise (goes (goes a refl) refl))
+    ⨾ gives refl refl (goes a (goes fall refl))
+    ⨾ gives refl refl (goes rise refl)
     ⨾ refl
     ⨾ refl
     ⨾ refl

@@ -7,7 +7,7 @@ use Rattle.zone.specs.declared.Zone.{Zone}
 use Rattle.zone.specs.declared.MaybeZone.{MaybeZone}
 use Rattle.zone.specs.declared.MaybeZone.the-variants.{Zone as zone}
 use Rattle.zone.specs.Zone.{Proper, run, diagonal}
-use Rattle.zone.proofs.Laws.{proper-run, proper-diagonal}
+use Rattle.zone.proofs.Laws.{proper-run, proper-within, proper-diagonal}
 use Rattle.list.specs.Insert.{Built, listed, overflow, insert-each}
 use Rattle.operators.specs.Operators.{union as unite, meets, compositions, banded}
 use Rattle.star.specs.Star.{Closure, finished, overflow, Star as Stars}
@@ -16,17 +16,23 @@ use Rattle.operators.proofs.Theorems.{union-well, meets-well, compositions-well
 use Rattle.star.proofs.Theorems.{star-well, star-unique, star-exists}
 use Rattle.runs.specs.declared.Level.{Level}
 use Rattle.runs.specs.declared.Run.{Run}
+use Rattle.runs.specs.declared.Level.the-variants as level
+use Rattle.runs.specs.Search.{other}
 use Rattle.runs.specs.Runs.{Runs}
+use Rattle.runs.specs.Events.{Events}
 use Rattle.runs.proofs.Runs.{runs-unique, Complete}
+use Rattle.runs.proofs.Events.{events-unique}
+use Rattle.expression.specs.declared.Sign.the-variants.{High, Low, Rise, Fall}
 use Rattle.expression.specs.declared.Join.the-variants.{Union, Intersection, Concatenation}
 use Rattle.expression.specs.declared.Unary.the-variants.{Star, Band}
 use Rattle.expression.specs.Expression.{Expression, epsilon, literal, join, unary}
-use Rattle.meaning.specs.Satisfies.{levelOf}
-use Rattle.meaning.specs.Lists.{Value, value, overflow, ended, starred, Then, Then.goes, Then.stops, Both, runZones, Letter, rangeBand, Closes, joinList, Evaluates}
+use Rattle.meaning.specs.Lists.{Value, value, overflow, ended, starred, Then, Then.goes, Then.stops, Both, runZones, Letter, momentZone, momentZones, Moments, rangeBand, Closes, joinList, Evaluates}
 
--- levels of finite variability on ticks from..to: those of each channel and level make a list of maximal runs
-abbrev pub FiniteVariability : (Shows : ℕ → Level → ℕ → Type 0) (from to : ℕ) → Type 0
-FiniteVariability Shows from to = (k : ℕ) (level : Level) → (rs : List Run) × Complete (Shows k level) from to rs
+-- levels of finite variability on ticks from..to: those of each channel and level make a list of maximal runs, and one of the events where
+-- the channel leaves the level
+pub record FiniteVariability (Shows : ℕ → Level → ℕ → Type 0) (from to : ℕ) : Type 0 where
+  pub runs : (k : ℕ) (level : Level) → (rs : List Run) × Complete (Shows k level) from to rs
+  pub events : (k : ℕ) (level : Level) → (ss : List ℕ) × Events (Shows k level) (Shows k (other level)) from to ss
 
 -- ---- one value
 
@@ -54,6 +60,10 @@ both-one build l r = then-one l (λ A m. then-one r (λ B n v w p q. p ∙ sym q
 letter-one : {P : ℕ → Type 0} {from to : ℕ} → One (Letter P from to)
 letter-one v w p q = p .built ∙ ap (λ (rs : List Run). ended (insert-each (runZones rs) []) 0) (runs-unique (p .maximal) (q .maximal)) ∙ sym (q .built)
 
+moments-one : {P Q : ℕ → Type 0} {from to : ℕ} → One (Moments P Q from to)
+moments-one v w p q =
+    p .built ∙ ap (λ (ss : List ℕ). ended (insert-each (momentZones ss) []) 0) (events-unique (p .events) (q .events)) ∙ sym (q .built)
+
 closes-one : {from to : ℕ} (A : List Zone) (r : ℕ) → One (Closes from to A r)
 closes-one A r v w p q = p .built ∙ ap (λ (o : Closure). starred o r) (star-unique (p .star) (q .star)) ∙ sym (q .built)
 
@@ -61,7 +71,10 @@ module _ (Shows : ℕ → Level → ℕ → Type 0) (from to : ℕ) where
   -- An expression comes to no two values: recording and drill alone decide the lists and the rounds.
   pub evaluates-unique : (e : Expression) (v w : Value) → Evaluates Shows from to e v → Evaluates Shows from to e w → v ≡ w
   evaluates-unique epsilon v w p q = p ∙ sym q
-  evaluates-unique (literal s k) v w p q = letter-one v w p q
+  evaluates-unique (literal High k) v w p q = letter-one v w p q
+  evaluates-unique (literal Low k) v w p q = letter-one v w p q
+  evaluates-unique (literal Rise k) v w p q = moments-one v w p q
+  evaluates-unique (literal Fall k) v w p q = moments-one v w p q
   evaluates-unique (join j e f) v w p q = both-one (joinList j) (evaluates-unique e) (evaluates-unique f) v w p q
   evaluates-unique (unary Star e) v w p q = then-one (evaluates-unique e) closes-one v w p q
   evaluates-unique (unary (Band r) e) v w p q = then-one (evaluates-unique e) (λ A s a b m n. m ∙ sym n) v w p q
@@ -111,6 +124,11 @@ pub letter-parts : {P : ℕ → Type 0} {from to : ℕ} {L : List Zone} {t : ℕ
     → (rs : List Run) × Runs P from to rs × (insert-each (runZones rs) [] ≡ listed L) × (t ≡ 0)
 letter-parts p = let q = listed-of (insert-each (runZones (p .runs)) []) (p .built) in (p .runs, p .maximal, q .0, q .1)
 
+-- the events, and the list that was built of them
+pub moments-parts : {P Q : ℕ → Type 0} {from to : ℕ} {L : List Zone} {t : ℕ} → Moments P Q from to (value L t)
+    → (ss : List ℕ) × Events P Q from to ss × (insert-each (momentZones ss) [] ≡ listed L) × (t ≡ 0)
+moments-parts p = let q = listed-of (insert-each (momentZones (p .at)) []) (p .built) in (p .at, p .events, q .0, q .1)
+
 zone-same : {z w : Zone} → _≡_ {A = MaybeZone} (zone z) (zone w) → z ≡ w
 zone-same e = cc
 
@@ -123,12 +141,23 @@ module _ (Shows : ℕ → Level → ℕ → Type 0) {from to : ℕ} (order : fro
       let x = q .1 .each (k .0) (k .1) in
       subst (Proper from to) (zone-same (k .2)) (proper-run (k .0 .start) (k .0 .end) (x .lower) (x .some) (x .upper)))
 
+  moments-well : {P Q : ℕ → Type 0} {L : List Zone} {t : ℕ} → Moments P Q from to (value L t) → WellFormed from to L
+  moments-well p =
+      let q = moments-parts p in
+      built-well (momentZones (q .0)) (q .2)
+      (λ z m. let k = Memᴰ·of-map (λ (s : ℕ). zone (momentZone s)) (q .0) m in
+      let x = q .1 .each (k .0) (k .1) in
+      subst (Proper from to) (zone-same (k .2)) (proper-within (x .0) (x .1) (proper-diagonal (k .0) (k .0) (omega arith))))
+
   -- The list of an expression holds tight zones inside from..to, none inside another, at most 128.
   pub evaluates-well : (e : Expression) (t : ℕ) {L : List Zone} → Evaluates Shows from to e (value L t) → WellFormed from to L
   evaluates-well epsilon t p =
       built-well (zone (diagonal from to) ∷ []) (listed-of (insert-each (zone (diagonal from to) ∷ []) []) p .0)
       (λ z m. subst (Proper from to) (sym (zone-same (eq-of-singleton m))) (proper-diagonal from to order))
-  evaluates-well (literal s k) t p = letter-well p
+  evaluates-well (literal High k) t p = letter-well p
+  evaluates-well (literal Low k) t p = letter-well p
+  evaluates-well (literal Rise k) t p = moments-well p
+  evaluates-well (literal Fall k) t p = moments-well p
   evaluates-well (join Union e f) t p =
       let q = both-parts unite p in union-well (q .one) (q .two) (evaluates-well e _ (q .first) .proper) (evaluates-well f _ (q .second) .proper) (q .built)
   evaluates-well (join Intersection e f) t p =
@@ -161,12 +190,18 @@ both-some build l r = then-some l (λ A m _. then-some r (λ B n _. (ended (buil
 
 module _ {Shows : ℕ → Level → ℕ → Type 0} {from to : ℕ} (finite : FiniteVariability Shows from to) (some : from < to) where
   letter-some : (k : ℕ) (level : Level) → Some (Letter (Shows k level) from to)
-  letter-some k level = let r = finite k level in (ended (insert-each (runZones (r .0)) []) 0, record { runs = r .0; maximal = r .1 .runs; built = refl })
+  letter-some k level = let r = finite .runs k level in (ended (insert-each (runZones (r .0)) []) 0, record { runs = r .0; maximal = r .1 .runs; built = refl })
+
+  moments-some : (k : ℕ) (level : Level) → Some (Moments (Shows k level) (Shows k (other level)) from to)
+  moments-some k level = let e = finite .events k level in (ended (insert-each (momentZones (e .0)) []) 0, record { at = e .0; events = e .1; built = refl })
 
   -- An expression comes to some value: every repetition ends.
   pub evaluates-exists : (e : Expression) → (v : Value) × Evaluates Shows from to e v
   evaluates-exists epsilon = (ended (insert-each (zone (diagonal from to) ∷ []) []) 0, refl)
-  evaluates-exists (literal s k) = letter-some k (levelOf s)
+  evaluates-exists (literal High k) = letter-some k level.High
+  evaluates-exists (literal Low k) = letter-some k level.Low
+  evaluates-exists (literal Rise k) = moments-some k level.Low
+  evaluates-exists (literal Fall k) = moments-some k level.High
   evaluates-exists (join j e f) = both-some (joinList j) (evaluates-exists e) (evaluates-exists f)
   evaluates-exists (unary Star e) =
       then-some (evaluates-exists e)

@@ -1,7 +1,6 @@
 -- Laws on what a drill means.
 pub mod Strict
 pub mod Meaning
-pub mod Letters
 pub mod Evaluation
 pub mod Members
 pub mod Totals

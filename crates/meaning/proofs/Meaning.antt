@@ -1,16 +1,24 @@
--- What it means to satisfy an expression: equal times satisfy alike, a satisfying stretch runs forward, and a letter is Definition 3's.
+-- What it means to satisfy an expression: equal times satisfy alike, a satisfying stretch runs forward, a letter is Definition 3's, and an event
+-- CR 3's.
 use mathlib.Core.Logic.{_↔_, ⊎-map, ⊎-elim}
-use Prim.Native.Nat.{ℕ, suc}
+use mathlib.Core.List.{List}
+use Prim.Native.Nat.{ℕ, suc, _-_, _<_}
+use native.Mathlib.Omega.{arith}
 use Rattle.limit.specs.Time.{Time, atTick, _≤ᵀ_, _<ᵀ_, _≈ᵀ_}
 use Rattle.limit.proofs.Times.{≤-trans, <-≤, ≈-≤, ≈-refl, ≈-sym, ≈-trans, within-same}
 use Rattle.star.specs.Pieces.{Pieces, Pieces.none, Pieces.more}
+use Rattle.recording.specs.Reading.{ticks}
 use Rattle.runs.specs.declared.Level.{Level}
+use Rattle.runs.specs.Levels.{Shows}
+use Rattle.runs.specs.Events.{Event}
+use Rattle.runs.proofs.Events.{event-inside}
 use Rattle.expression.specs.declared.Upper.{Upper}
 use Rattle.expression.specs.declared.Upper.the-variants.{Endless, UpTo}
+use Rattle.expression.specs.declared.Sign.the-variants.{High, Low, Rise, Fall}
 use Rattle.expression.specs.declared.Join.the-variants.{Union, Intersection, Concatenation}
 use Rattle.expression.specs.declared.Unary.the-variants.{Star, Band}
 use Rattle.expression.specs.Expression.{Expression, epsilon, literal, join, unary}
-use Rattle.meaning.specs.Satisfies.{Throughout, upperLimit, lowerLimit, NoLonger, Satisfies}
+use Rattle.meaning.specs.Satisfies.{Throughout, Moment, upperLimit, lowerLimit, NoLonger, Satisfies}
 use Rattle.meaning.proofs.Strict.{<-same, <-trans, ≤-<-trans, <-≤-trans, common, tick-next}
 
 -- ---- pieces
@@ -45,6 +53,27 @@ throughout-is = (
   },
 )
 
+-- ---- an event
+
+moment-same : {P Q : ℕ → Type 0} {x y u v : Time} → x ≈ᵀ u → y ≈ᵀ v → Moment P Q x y → Moment P Q u v
+moment-same p q h = record { at = h .at; start = ≈-trans (≈-sym p) (h .start); end = ≈-trans (≈-sym q) (h .end); event = h .event }
+
+moment-forward : {P Q : ℕ → Type 0} {x y : Time} → Moment P Q x y → x ≤ᵀ y
+moment-forward h = ≈-≤ (≈-trans (h .start) (≈-sym (h .end))) .0
+
+-- 4/2 and 6/3 are tick 2
+pub moment-at-2 : {P Q : ℕ → Type 0} → Event P Q 2 → Moment P Q (record { num = 4; den = 2; some = omega arith }) (record { num = 6; den = 3; some = omega arith })
+moment-at-2 e = record { at = 2; start = record { same = omega arith }; end = record { same = omega arith }; event = e }
+
+-- On a recording a moment is as CR 3 says it, for `+` with a low and b high, for `-` the opposite: "the zero-length stretch at a whole tick s,
+-- 0 < s < d, where a is low in tick s − 1 and high in tick s".
+pub moment-is : (bytes : List ℕ) (channel : ℕ) (a b : Level) {x y : Time} → Moment (Shows bytes channel a) (Shows bytes channel b) x y
+    ↔ ((s : ℕ) × (x ≈ᵀ atTick s) × (y ≈ᵀ atTick s) × (0 < s) × (s < ticks bytes) × Shows bytes channel a (s - 1) × Shows bytes channel b s)
+moment-is bytes channel a b = (
+  λ h. let d = event-inside bytes channel a (h .event) in (h .at, h .start, h .end, d .0, d .1, h .event .was, h .event .is),
+  λ h. record { at = h .0; start = h .1; end = h .2; event = record { some = h .3; was = h .5; is = h .6 } },
+)
+
 -- ---- expressions
 
 no-longer-same : (hi : Upper) {x y u v : Time} → x ≈ᵀ u → y ≈ᵀ v → NoLonger hi x y → NoLonger hi u v
@@ -55,7 +84,10 @@ module _ (Shows : ℕ → Level → ℕ → Type 0) where
   -- Equal times satisfy alike: 1/1 and 2/2 are one time everywhere.
   pub satisfies-same : (e : Expression) (x y u v : Time) → x ≈ᵀ u → y ≈ᵀ v → Satisfies Shows e x y → Satisfies Shows e u v
   satisfies-same epsilon x y u v p q h = ≈-trans (≈-sym p) (≈-trans h q)
-  satisfies-same (literal s k) x y u v p q h = throughout-same p q h
+  satisfies-same (literal High k) x y u v p q h = throughout-same p q h
+  satisfies-same (literal Low k) x y u v p q h = throughout-same p q h
+  satisfies-same (literal Rise k) x y u v p q h = moment-same p q h
+  satisfies-same (literal Fall k) x y u v p q h = moment-same p q h
   satisfies-same (join Union e f) x y u v p q h = ⊎-map (satisfies-same e x y u v p q) (satisfies-same f x y u v p q) h
   satisfies-same (join Intersection e f) x y u v p q h = (satisfies-same e x y u v p q (h .0), satisfies-same f x y u v p q (h .1))
   satisfies-same (join Concatenation e f) x y u v p q h =
@@ -68,7 +100,10 @@ module _ (Shows : ℕ → Level → ℕ → Type 0) where
   -- A satisfying stretch has start ≤ end.
   pub satisfies-forward : (e : Expression) (x y : Time) → Satisfies Shows e x y → x ≤ᵀ y
   satisfies-forward epsilon x y h = ≈-≤ h .0
-  satisfies-forward (literal s k) x y h = <-≤ (h .some)
+  satisfies-forward (literal High k) x y h = <-≤ (h .some)
+  satisfies-forward (literal Low k) x y h = <-≤ (h .some)
+  satisfies-forward (literal Rise k) x y h = moment-forward h
+  satisfies-forward (literal Fall k) x y h = moment-forward h
   satisfies-forward (join Union e f) x y h = ⊎-elim (satisfies-forward e x y) (satisfies-forward f x y) h
   satisfies-forward (join Intersection e f) x y h = satisfies-forward e x y (h .0)
   satisfies-forward (join Concatenation e f) x y h = ≤-trans (h .1) (h .2)

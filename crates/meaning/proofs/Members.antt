@@ -4,13 +4,13 @@ use mathlib.Core.Logic.{_↔_, ⊎-map, ⊎-elim, Iff·trans}
 use mathlib.Core.List.{List, [], _∷_, List·Memᴰ, Memᴰ·map, Memᴰ·of-map}
 use Prim.Native.Nat.{ℕ, suc, _≤_}
 use native.Mathlib.Omega.{arith}
-use Rattle.limit.specs.Time.{Time, atTick, _≤ᵀ_, _<ᵀ_}
+use Rattle.limit.specs.Time.{Time, atTick, _≤ᵀ_, _<ᵀ_, _≈ᵀ_}
 use Rattle.zone.specs.declared.Zone.{Zone}
 use Rattle.zone.specs.declared.MaybeZone.{MaybeZone}
 use Rattle.zone.specs.declared.MaybeZone.the-variants.{Zone as zone}
 use Rattle.limit.specs.Limit.{Within}
 use Rattle.zone.specs.Zone.{In, InMaybe, Stretch, run, diagonal}
-use Rattle.limit.proofs.Times.{≤-trans, ≤-total, tick-≤}
+use Rattle.limit.proofs.Times.{≤-trans, ≤-total, ≈-≤, ≤-≈, ≈-sym, ≈-trans, tick-≤}
 use Rattle.zone.proofs.Laws.{run-members, diagonal-members, band-members, whole-most}
 use Rattle.list.specs.Insert.{listed, insert-each}
 use Rattle.operators.specs.Operators.{union as unite, meets, compositions, banded}
@@ -21,19 +21,21 @@ use Rattle.list.proofs.Theorems.{built-lies}
 use Rattle.operators.proofs.Theorems.{union-lies, meets-lies, compositions-lies, banded-lies}
 use Rattle.star.proofs.Theorems.{star-lies}
 use Rattle.runs.specs.declared.Level.{Level}
+use Rattle.runs.specs.declared.Level.the-variants as level
 use Rattle.runs.specs.declared.Run.{Run}
 use Rattle.runs.proofs.Runs.{runs-unique, Complete, Held}
 use Rattle.expression.specs.declared.Range.{Range}
 use Rattle.expression.specs.declared.Upper.{Upper}
 use Rattle.expression.specs.declared.Upper.the-variants.{Endless, UpTo}
+use Rattle.expression.specs.declared.Sign.the-variants.{High, Low, Rise, Fall}
 use Rattle.expression.specs.declared.Join.the-variants.{Union, Intersection, Concatenation}
 use Rattle.expression.specs.declared.Unary.the-variants.{Star, Band}
 use Rattle.expression.specs.Expression.{Expression, epsilon, literal, join, unary}
-use Rattle.meaning.specs.Satisfies.{Throughout, lowerLimit, NoLonger, Lasts, levelOf, Satisfies}
-use Rattle.meaning.specs.Lists.{value, runZones, Letter, longest, rangeBand, Evaluates}
-use Rattle.meaning.proofs.Strict.{≤-<-trans, <-≤-trans, tick-<, floor, floor-≤, floor-<}
+use Rattle.meaning.specs.Satisfies.{Throughout, Moment, lowerLimit, NoLonger, Lasts, Satisfies}
+use Rattle.meaning.specs.Lists.{value, runZones, Letter, momentZone, momentZones, Moments, longest, rangeBand, Evaluates}
+use Rattle.meaning.proofs.Strict.{≤-<-trans, <-≤-trans, tick-<, tick-≤-back, floor, floor-≤, floor-<}
 use Rattle.meaning.proofs.Meaning.{pieces-forward, satisfies-forward}
-use Rattle.meaning.proofs.Evaluation.{FiniteVariability, listed-of, then-parts, both-parts, closes-parts, letter-parts, evaluates-well}
+use Rattle.meaning.proofs.Evaluation.{FiniteVariability, listed-of, then-parts, both-parts, closes-parts, letter-parts, moments-parts, evaluates-well}
 
 -- what lies in a list of proper zones is inside from..to
 lies-inside : {from to : ℕ} {L : List Zone} {x y : Time} → AllProper from to L → Lies L x y → Stretch from to x y
@@ -76,6 +78,28 @@ module _ {P : ℕ → Type 0} {from to : ℕ} (runs : (rs : List Run) × Complet
         λ h. let w = within-run s h in
             (zone (run (w .0 .start) (w .0 .end)), Memᴰ·map (λ (r : Run). zone (run (r .start) (r .end))) (subst (List·Memᴰ (w .0)) (sym same) (w .1)), w .2),
       )
+
+-- ---- an event
+
+-- the moment of a tick is its zone's only stretch
+moment-zone : (s : ℕ) {x y : Time} → In (momentZone s) x y ↔ ((x ≈ᵀ atTick s) × (y ≈ᵀ atTick s))
+moment-zone s {x} {y} =
+    let d = diagonal-members s s x y in (
+      λ i. let m = d .0 i in let x≈s = ≤-≈ (≤-trans (≈-≤ (m .1) .0) (m .2)) (m .0) in (x≈s, ≈-trans (≈-sym (m .1)) x≈s),
+      λ h. d .1 (≈-≤ (h .0) .1, ≈-trans (h .0) (≈-sym (h .1)), ≈-≤ (h .1) .0),
+    )
+
+moments-members : {P Q : ℕ → Type 0} {from to : ℕ} {L : List Zone} {t : ℕ} {x y : Time} → Moments P Q from to (value L t) → Stretch from to x y → Lies L x y ↔ Moment P Q x y
+moments-members {from = from} {to = to} {x = x} {y = y} p s =
+    let q = moments-parts p in
+    Iff·trans (built-lies (momentZones (q .0)) (q .2) x y) (
+      λ o. let k = Memᴰ·of-map (λ (s : ℕ). zone (momentZone s)) (q .0) (o .1) in
+          let m = moment-zone (k .0) .0 (subst (λ (z : MaybeZone). InMaybe z x y) (sym (k .2)) (o .2)) in
+          record { at = k .0; start = m .0; end = m .1; event = q .1 .each (k .0) (k .1) .2 },
+      λ h. let a : from ≤ h .at = tick-≤-back (≤-trans (s .0) (≈-≤ (h .start) .0)) in
+          let b : h .at ≤ to = tick-≤-back (≤-trans (≈-≤ (h .end) .1) (s .2)) in
+          (zone (momentZone (h .at)), Memᴰ·map (λ (s : ℕ). zone (momentZone s)) (q .1 .all (h .at) a b (h .event)), moment-zone (h .at) .1 (h .start, h .end)),
+    )
 
 -- ---- a band
 
@@ -125,7 +149,10 @@ module _ (Shows : ℕ → Level → ℕ → Type 0) {from to : ℕ} (finite : Fi
       let d = diagonal-members from to x y in
       Iff·trans (built-lies (zone (diagonal from to) ∷ []) b x y)
       (Iff·trans (offered-one (diagonal from to) x y) (λ i. d .0 i .1, λ e. d .1 (s .0, e, s .2)))
-  members (literal a k) t p x y s = letter-members (finite k (levelOf a)) p s
+  members (literal High k) t p x y s = letter-members (finite .runs k level.High) p s
+  members (literal Low k) t p x y s = letter-members (finite .runs k level.Low) p s
+  members (literal Rise k) t p x y s = moments-members p s
+  members (literal Fall k) t p x y s = moments-members p s
   members (join Union e f) t p x y s =
       let q = both-parts unite p in
       let a = members e _ (q .first) x y s in

@@ -1,6 +1,6 @@
 -- The strict order of times, and the tick that holds a time.
 use mathlib.Core.Logic.{⊎-elim}
-use Prim.Native.Nat.{ℕ, suc, _+_, _/_, _<_}
+use Prim.Native.Nat.{ℕ, suc, _+_, _/_, _≤_, _<_}
 use native.Mathlib.Nat.{div-mul-le-self, lt-div-mul-add}
 use native.Mathlib.Omega.{arith}
 use Rattle.limit.specs.Time.{Time, atTick, _≤ᵀ_, _<ᵀ_, _≈ᵀ_}
@@ -27,6 +27,9 @@ pub <-same : {x y u v : Time} → x ≈ᵀ u → y ≈ᵀ v → x <ᵀ y → u <
 
 pub tick-< : {m n : ℕ} → atTick m <ᵀ atTick n → m < n
 tick-< h = omega (arith, h .lt)
+
+pub tick-≤-back : {m n : ℕ} → atTick m ≤ᵀ atTick n → m ≤ n
+tick-≤-back h = omega (arith, h .le)
 
 pub tick-next : (n : ℕ) → atTick n <ᵀ atTick (suc n)
 tick-next n = record { lt = omega arith }

@@ -15,11 +15,12 @@ use Rattle.star.specs.Star.{finished, Star as Stars}
 use Rattle.star.specs.Pieces.{Pieces}
 use Rattle.star.proofs.Theorems.{star-lies, star-unique, star-bound, star-pieces}
 use Rattle.runs.specs.declared.Level.{Level}
+use Rattle.expression.specs.declared.Sign.the-variants.{High, Low, Rise, Fall}
 use Rattle.expression.specs.declared.Unary.the-variants.{Star, Band}
 use Rattle.expression.specs.Expression.{Expression, epsilon, literal, join, unary, depth}
 use Rattle.meaning.specs.Satisfies.{Satisfies}
 use Rattle.meaning.specs.Lists.{value, rangeBand, joinList, Evaluates, repeated, RoundsOf, Sum, Sum.none, Sum.also}
-use Rattle.meaning.proofs.Evaluation.{FiniteVariability, listed-of, letter-parts, then-parts, both-parts, closes-parts, evaluates-unique, evaluates-well}
+use Rattle.meaning.proofs.Evaluation.{FiniteVariability, listed-of, letter-parts, moments-parts, then-parts, both-parts, closes-parts, evaluates-unique, evaluates-well}
 use Rattle.meaning.proofs.Members.{pieces-members}
 
 -- ---- sums
@@ -58,7 +59,10 @@ module _ (Shows : ℕ → Level → ℕ → Type 0) {from to : ℕ} where
   pub evaluates-sum : (e : Expression) (L : List Zone) (t : ℕ) → Evaluates Shows from to e (value L t) → Sum (RoundsOf Shows from to) (repeated e) t
   unfolding repeated
   evaluates-sum epsilon L t p = rw (listed-of (insert-each (zone (diagonal from to) ∷ []) []) p .1) none
-  evaluates-sum (literal s k) L t p = rw (letter-parts p .3) none
+  evaluates-sum (literal High k) L t p = rw (letter-parts p .3) none
+  evaluates-sum (literal Low k) L t p = rw (letter-parts p .3) none
+  evaluates-sum (literal Rise k) L t p = rw (moments-parts p .3) none
+  evaluates-sum (literal Fall k) L t p = rw (moments-parts p .3) none
   evaluates-sum (join j e f) L t p =
       let q = both-parts (joinList j) p in rw (q .total) (sum-append (evaluates-sum e _ _ (q .first)) (evaluates-sum f _ _ (q .second)))
   evaluates-sum (unary Star e) L t p =

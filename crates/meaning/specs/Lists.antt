@@ -15,17 +15,21 @@ use Rattle.operators.specs.Operators.{union as unite, meets, compositions, band
 use Rattle.star.specs.Star as rounds
 use Rattle.star.specs.Star.{Closure, finished, Star as Stars}
 use Rattle.runs.specs.declared.Level.{Level}
+use Rattle.runs.specs.declared.Level.the-variants.{High, Low}
 use Rattle.runs.specs.declared.Run.{Run}
 use Rattle.runs.specs.Runs.{Runs}
+use Rattle.runs.specs.Events.{Events}
 use Rattle.expression.specs.declared.Range.{Range}
 use Rattle.expression.specs.declared.Upper.{Upper}
 use Rattle.expression.specs.declared.Upper.the-variants.{Endless, UpTo}
+use Rattle.expression.specs.declared.Sign.the-variants as sign
+use Rattle.expression.specs.declared.Sign.the-variants.{Rise, Fall}
 use Rattle.expression.specs.declared.Join.{Join}
 use Rattle.expression.specs.declared.Join.the-variants.{Union, Intersection, Concatenation}
 use Rattle.expression.specs.declared.Unary.{Unary}
 use Rattle.expression.specs.declared.Unary.the-variants.{Star, Band}
 use Rattle.expression.specs.Expression.{Expression, epsilon, literal, join, unary}
-use Rattle.meaning.specs.Satisfies.{levelOf, upperLimit, lowerLimit}
+use Rattle.meaning.specs.Satisfies.{upperLimit, lowerLimit}
 
 -- what an expression comes to: its list and its total of rounds, or that "a put would leave a list of 129 zones"
 pub data Value : Type 0 where
@@ -59,6 +63,19 @@ pub record Letter (P : ℕ → Type 0) (from to : ℕ) (v : Value) : Type 0 wher
   pub maximal : Runs P from to runs
   pub built : v ≡ ended (insert-each (runZones runs) []) 0
 
+-- start = end = s
+abbrev pub momentZone : ℕ → Zone
+momentZone s = diagonal s s
+
+-- "Their zones are put in rising s"
+abbrev pub momentZones : List ℕ → List MaybeZone
+momentZones = map (λ (s : ℕ). zone (momentZone s))
+
+pub record Moments (P Q : ℕ → Type 0) (from to : ℕ) (v : Value) : Type 0 where
+  pub at : List ℕ
+  pub events : Events P Q from to at
+  pub built : v ≡ ended (insert-each (momentZones at) []) 0
+
 -- the limit of a band on end − start; a missing hi is to − from, reached, which no stretch exceeds
 abbrev pub longest : ℕ → ℕ → Upper → Limit
 longest from to Endless = most (to - from)
@@ -91,7 +108,11 @@ abbrev pub Evaluates : (Shows : ℕ → Level → ℕ → Type 0) (from to : ℕ
 -- "`_`: the diagonal, start = end"
 Evaluates Shows from to epsilon v = v ≡ ended (insert-each (zone (diagonal from to) ∷ []) []) 0
 -- "a letter or `!`"
-Evaluates Shows from to (literal s k) v = Letter (Shows k (levelOf s)) from to v
+Evaluates Shows from to (literal sign.High k) v = Letter (Shows k High) from to v
+Evaluates Shows from to (literal sign.Low k) v = Letter (Shows k Low) from to v
+-- `+` and `-`
+Evaluates Shows from to (literal Rise k) v = Moments (Shows k Low) (Shows k High) from to v
+Evaluates Shows from to (literal Fall k) v = Moments (Shows k High) (Shows k Low) from to v
 -- an operator with two operands, and with one
 Evaluates Shows from to (join j e f) v = Both (joinList j) (Evaluates Shows from to e) (Evaluates Shows from to f) v
 Evaluates Shows from to (unary u e) v = Then (Evaluates Shows from to e) (applied from to u) v

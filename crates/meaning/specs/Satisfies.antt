@@ -1,5 +1,5 @@
--- "What a stretch satisfies": Definition 3 of document 004, over any levels and all times. `Shows k level n` says that channel k has the
--- level in tick n.
+-- "What a stretch satisfies": Definition 3 of document 004, and of events CR 3, over any levels and all times. `Shows k level n` says that
+-- channel k has the level in tick n.
 use mathlib.Core.Logic.{_⊎_}
 use Prim.Native.Nat.{ℕ, suc}
 use Rattle.limit.specs.Time.{Time, atTick, _≤ᵀ_, _<ᵀ_, _≈ᵀ_}
@@ -8,13 +8,14 @@ use Rattle.limit.specs.Limit.{Within, most, least, less, more}
 use Rattle.star.specs.Pieces.{Pieces}
 use Rattle.runs.specs.declared.Level.{Level}
 use Rattle.runs.specs.declared.Level.the-variants.{High, Low}
+use Rattle.runs.specs.Events.{Event}
 use Rattle.expression.specs.declared.Range.{Range}
 use Rattle.expression.specs.declared.End.{End}
 use Rattle.expression.specs.declared.End.the-variants.{Closed, Open}
 use Rattle.expression.specs.declared.Upper.{Upper}
 use Rattle.expression.specs.declared.Upper.the-variants.{Endless, UpTo}
-use Rattle.expression.specs.declared.Sign.{Sign}
-use Rattle.expression.specs.declared.Sign.the-variants.{High as plain, Low as negated}
+use Rattle.expression.specs.declared.Sign.the-variants as sign
+use Rattle.expression.specs.declared.Sign.the-variants.{Rise, Fall}
 use Rattle.expression.specs.declared.Join.the-variants.{Union, Intersection, Concatenation}
 use Rattle.expression.specs.declared.Unary.the-variants.{Star, Band}
 use Rattle.expression.specs.Expression.{Expression, epsilon, literal, join, unary}
@@ -23,6 +24,14 @@ use Rattle.expression.specs.Expression.{Expression, epsilon, literal, join, una
 pub record Throughout (P : ℕ → Type 0) (x y : Time) : Type 0 where
   pub some : x <ᵀ y
   pub each : (n : ℕ) → x <ᵀ atTick (suc n) → atTick n <ᵀ y → P n
+
+-- "the zero-length stretch at a whole tick s .. where a is low in tick s − 1 and high in tick s": of what is said of the tick before s and of
+-- that after it. Times are equal as fractions, so that 4/2 is tick 2
+pub record Moment (P Q : ℕ → Type 0) (x y : Time) : Type 0 where
+  pub at : ℕ
+  pub start : x ≈ᵀ atTick at
+  pub end : y ≈ᵀ atTick at
+  pub event : Event P Q at
 
 -- The limits that an end of a range sets, as hi on end − start, and as lo on start − end: "A `<` before lo or hi makes that end not reached".
 abbrev pub upperLimit : End → Limit
@@ -42,17 +51,16 @@ NoLonger (UpTo hi) x y = Within (upperLimit hi) y x
 abbrev pub Lasts : Range → Time → Time → Type 0
 Lasts r x y = Within (lowerLimit (r .lo)) x y × NoLonger (r .hi) x y
 
--- the level that a letter asks for: "a letter", and "`!` the same with low"
-abbrev pub levelOf : Sign → Level
-levelOf plain = High
-levelOf negated = Low
-
 -- the stretch from x to y satisfies the expression
 abbrev pub Satisfies : (Shows : ℕ → Level → ℕ → Type 0) → Expression → Time → Time → Type 0
 -- "`_`: start = end"
 Satisfies Shows epsilon x y = x ≈ᵀ y
--- "a letter", and "`!` the same with low"
-Satisfies Shows (literal s k) x y = Throughout (Shows k (levelOf s)) x y
+-- "a letter: start < end, and the channel is high in each tick that the open stretch overlaps; `!` the same with low"
+Satisfies Shows (literal sign.High k) x y = Throughout (Shows k High) x y
+Satisfies Shows (literal sign.Low k) x y = Throughout (Shows k Low) x y
+-- "`+a` fits only the zero-length stretch at a whole tick s .. where a is low in tick s − 1 and high in tick s; `-a` the opposite"
+Satisfies Shows (literal Rise k) x y = Moment (Shows k Low) (Shows k High) x y
+Satisfies Shows (literal Fall k) x y = Moment (Shows k High) (Shows k Low) x y
 -- "`|`, `&`: either, both"
 Satisfies Shows (join Union e f) x y = Satisfies Shows e x y ⊎ Satisfies Shows f x y
 Satisfies Shows (join Intersection e f) x y = Satisfies Shows e x y × Satisfies Shows f x y

@@ -127,7 +127,7 @@ fn repeat(text: &[u8], at: usize, nodes: &mut [u32], used: u32) -> Read
     }
 }
 
-// `_`, a letter, `!` and a letter, or a whole alternative in round brackets.
+// `_`, a letter with its sign, or a whole alternative in round brackets.
 fn primary(text: &[u8], at: usize, nodes: &mut [u32], used: u32) -> Read
     requires { ⌜ Ready (now text) at (now nodes) used ⌝ }
     ensures { λ r. ⌜ ReadAs single (now (text .entry)) at used (now (nodes .entry)) (now (nodes .exit)) r ⌝ }

@@ -1,3 +1,3 @@
 pub mod Windows
 pub mod Puts
-pub mod Letters
+pub mod Spelling

@@ -7,6 +7,7 @@ use Rattle.recording.specs.Reading.{IsRecording}
 use Rattle.recording.proofs.Refusals.{read-ticks, read-end, read-numbers, read-headed}
 use Rattle.primaries.specs.declared.Window.{Window}
 use Rattle.primaries.specs.Windows.{Looks}
+use Rattle.primaries.specs.Spelling.{widened}
 use Rattle.values.specs.Values.{Ticks}
 
 -- ticks 0 to d
@@ -17,6 +18,11 @@ module _ {bytes : List ℕ} {window : Window} (looks : Looks bytes window) where
   -- a recording has at most 1,000,000 ticks
   pub looks-ticks : Ticks (window .from) (window .to)
   looks-ticks = record { forward = omega (arith, looks .some); small = omega (arith, looks .ends, read-end (looks .read), read-ticks (looks .read) .1) }
+
+  -- with the ticks beside it, it lies in the recording too
+  pub looks-around : Looks bytes (widened window)
+  looks-around =
+      record { read = looks .read; some = omega (arith, looks .some, looks .ends, read-end (looks .read)); ends = omega (arith, read-end (looks .read)) }
 
   -- and channels that have room in a byte
   pub few-channels : window .size .channels ≤ 16

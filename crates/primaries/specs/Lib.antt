@@ -1,2 +1,3 @@
 -- What the contracts of `primaries` cite: definitions alone.
 pub mod Windows
+pub mod Spelling

@@ -8,22 +8,27 @@ use recording::Dimensions;
 use runs::Cursor;
 use runs::Level;
 use runs::Next;
+use runs::Run;
 use values::Evaluated;
+use zone::MaybeZone;
 use zone::Zone;
 ghost use mathlib.Core.Path.{_≡_};
 ghost use mathlib.Core.List.{[], _∷_};
-ghost use Prim.Native.Nat.{_+_, _≤_};
+ghost use Prim.Native.Nat.{_+_, _-_, _≤_, min};
 ghost use lib.ListN.{length};
+ghost use Rattle.limit.specs.Limit.{most-ticks};
 ghost use Rattle.zone.specs.declared.MaybeZone.the-variants.{Zone as zone};
 ghost use Rattle.zone.specs.Zone.{Ranged, diagonal};
 ghost use Rattle.list.specs.Insert.{insert-each};
 ghost use Rattle.list.specs.Slots.{slot-words, listAt, Slot, Kept};
 ghost use Rattle.operators.specs.Listing.{BuiltAs};
 ghost use Rattle.runs.specs.Levels.{Shows};
+ghost use Rattle.runs.specs.Search.{other};
 ghost use Rattle.expression.specs.Expression.{literal};
-ghost use Rattle.meaning.specs.Lists.{ended, Letter, Evaluates};
+ghost use Rattle.meaning.specs.Lists.{ended, Letter, Moments, Evaluates};
 ghost use Rattle.values.specs.Values.{EvaluatedAs, Ticks};
 ghost use Rattle.primaries.specs.Windows.{Looks};
+ghost use Rattle.primaries.specs.Spelling.{widened, markOf, Spelling};
 
 // The ticks from..to of a recording that was read: where a drill is evaluated.
 pub struct Window {
@@ -57,17 +62,43 @@ pub fn point(work: &mut [i32], base: usize, from: u32, to: u32) -> Evaluated
     Evaluated::Listed { count, rounds: 0 }
 }
 
-// The maximal runs of the channel at the level, put in rising time, in the slot at `base`.
-fn letter(
+// What is put for each run of ticks.
+enum Mark {
+    // The stretches in it.
+    Inside,
+    // The moment when it ends.
+    End,
+}
+
+// The zone of a run that was looked for up to tick `to`; one that lasts up to there has no end.
+fn mark_of(mark: Mark, run: Run, to: u32) -> MaybeZone
+    requires { ⌜ (run .start ≤ most-ticks) × (run .end ≤ most-ticks) ⌝ }
+    ensures { λ r. ⌜ r ≡ markOf mark to run ⌝ }
+{
+    match mark {
+        Mark::Inside => MaybeZone::Zone(Zone::run(run.start, run.end)),
+        Mark::End => {
+            if run.end < to {
+                MaybeZone::Zone(Zone::diagonal(run.end, run.end))
+            } else {
+                MaybeZone::Empty
+            }
+        }
+    }
+}
+
+// The maximal runs of the channel at the level, put in rising time as their marks, in the slot at `base`.
+fn spell(
     bytes: &[u8],
     window: Window,
     channel: u8,
     level: Level,
+    mark: Mark,
     work: &mut [i32],
     base: usize,
 ) -> Evaluated
     requires { ⌜ (Looks (now bytes) window) × (base + slot-words ≤ length (now work)) ⌝ }
-    ensures value { λ r. ⌜ EvaluatedAs (Letter (Shows (now (bytes .entry)) channel level) (window .from) (window .to)) (now (work .exit)) base r ⌝ }
+    ensures value { λ r. ⌜ EvaluatedAs (Spelling mark (Shows (now (bytes .entry)) channel level) (window .from) (window .to)) (now (work .exit)) base r ⌝ }
     ensures kept { λ _. ⌜ Kept base slot-words (now (work .entry)) (now (work .exit)) ⌝ }
 {
     let mut cursor = Cursor { change: 0 };
@@ -84,15 +115,74 @@ fn letter(
         ) else {
             return Evaluated::Listed { count, rounds: 0 };
         };
-        let Listed::Count(n) = put(work, base, count, Zone::run(run.start, run.end)) else {
+        cursor = onward;
+        let MaybeZone::Zone(z) = mark_of(mark, run, window.to) else {
+            continue;
+        };
+        let Listed::Count(n) = put(work, base, count, z) else {
             return Evaluated::Overflow;
         };
         count = n;
-        cursor = onward;
     }
 }
 
-// A letter with its sign: the list of its channel's runs at the level that it asks for, in the slot at `base`.
+fn previous(tick: u32) -> u32
+    ensures { λ r. ⌜ r ≡ tick - 1 ⌝ }
+{
+    if tick == 0 { 0 } else { tick - 1 }
+}
+
+fn next_up_to(tick: u32, last: u32) -> u32
+    ensures { λ r. ⌜ r ≡ min (tick + 1) last ⌝ }
+{
+    if tick < last { tick + 1 } else { last }
+}
+
+// The window with the ticks beside it, where the recording has them: an event at its edge sees both.
+fn around(window: Window) -> Window
+    ensures { λ r. ⌜ r ≡ widened window ⌝ }
+{
+    let size = window.size;
+    Window {
+        size,
+        from: previous(window.from),
+        to: next_up_to(window.to, size.ticks),
+    }
+}
+
+// A letter or `!`: the maximal runs of its channel at the level that it asks for, in the slot at `base`.
+fn letter(
+    bytes: &[u8],
+    window: Window,
+    channel: u8,
+    level: Level,
+    work: &mut [i32],
+    base: usize,
+) -> Evaluated
+    requires { ⌜ (Looks (now bytes) window) × (base + slot-words ≤ length (now work)) ⌝ }
+    ensures value { λ r. ⌜ EvaluatedAs (Letter (Shows (now (bytes .entry)) channel level) (window .from) (window .to)) (now (work .exit)) base r ⌝ }
+    ensures kept { λ _. ⌜ Kept base slot-words (now (work .entry)) (now (work .exit)) ⌝ }
+{
+    spell(bytes, window, channel, level, Mark::Inside, work, base)
+}
+
+// `+` or `-` and a letter: the moments when its channel leaves the level, in the slot at `base`. They are the ends of the runs.
+fn moments(
+    bytes: &[u8],
+    window: Window,
+    channel: u8,
+    was: Level,
+    work: &mut [i32],
+    base: usize,
+) -> Evaluated
+    requires { ⌜ (Looks (now bytes) window) × (base + slot-words ≤ length (now work)) ⌝ }
+    ensures value { λ r. ⌜ EvaluatedAs (Moments (Shows (now (bytes .entry)) channel was) (Shows (now (bytes .entry)) channel (other was)) (window .from) (window .to)) (now (work .exit)) base r ⌝ }
+    ensures kept { λ _. ⌜ Kept base slot-words (now (work .entry)) (now (work .exit)) ⌝ }
+{
+    spell(bytes, around(window), channel, was, Mark::End, work, base)
+}
+
+// A letter with its sign, in the slot at `base`.
 pub fn literal(
     bytes: &[u8],
     window: Window,
@@ -108,5 +198,7 @@ pub fn literal(
     match sign {
         Sign::High => letter(bytes, window, channel, Level::High, work, base),
         Sign::Low => letter(bytes, window, channel, Level::Low, work, base),
+        Sign::Rise => moments(bytes, window, channel, Level::Low, work, base),
+        Sign::Fall => moments(bytes, window, channel, Level::High, work, base),
     }
 }

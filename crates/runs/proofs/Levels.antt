@@ -1,17 +1,17 @@
 -- The level of a channel in a tick, computed, and told from the change that holds there.
-use mathlib.Core.Path.{_≡_, refl, sym, subst, _∙_}
-use mathlib.Core.Bool.{Bool, true, false, cond, _&&_}
+use mathlib.Core.Path.{_≡_, refl, sym, ap, subst, _∙_}
+use mathlib.Core.Bool.{Bool, true, false, not, cond, _&&_}
 use mathlib.Core.List.{List}
-use mathlib.Core.Logic.{_↔_}
+use mathlib.Core.Logic.{_↔_, _⊎_, inl, inr}
 use Prim.Native.Nat.{ℕ, zero, suc, _+_, _-_, _≤_, _<_}
 use native.Mathlib.Decide.{decLe, ℕ-discrete}
 use native.Mathlib.Omega.{arith}
 use borrow.Author.Tests.{ltb-true, ltb-false, leb-true, leb-false, le-leb, ne-eqb}
-use lib.Dec.{leb, ltb}
+use lib.Dec.{eqb, leb, ltb}
 use Rattle.recording.specs.Reading.{tick, ticks, time, levels, changes, IsRecording}
 use Rattle.recording.specs.Changes.{begins}
 use Rattle.runs.specs.Levels.{levelIn, Stands, Shows, reported, unreported}
-use Rattle.runs.specs.Search.{sameLevel, leavesAt}
+use Rattle.runs.specs.Search.{other, sameLevel, leavesAt}
 use Rattle.runs.specs.declared.Level.{Level}
 use Rattle.runs.specs.declared.Level.the-variants.{High, Low}
 use Rattle.recording.specs.declared.Dimensions.{Dimensions}
@@ -99,6 +99,57 @@ shown-is bytes channel level k = go (ltb k (ticks bytes)) refl
         early : Shows bytes channel level k → ⊥
         early (reported h _ _) = late (ltb-false _ _ e) h
         early (unreported h _ _) = late (ltb-false _ _ e) h
+
+-- ONE LEVEL OR THE OTHER
+
+same-other : (a level : Level) → sameLevel a (other level) ≡ not (sameLevel a level)
+same-other High High = refl
+same-other High Low = refl
+same-other Low High = refl
+same-other Low Low = refl
+
+cond-not : (t : Bool) {a b : Bool} (c d : Bool) → a ≡ not c → b ≡ not d → cond t a b ≡ not (cond t c d)
+cond-not true c d p q = p
+cond-not false c d p q = q
+
+leaves-other : (bytes : List ℕ) (channel : ℕ) (level : Level) (j : ℕ) → leavesAt bytes channel (other level) j ≡ not (leavesAt bytes channel level j)
+unfolding leavesAt
+leaves-other bytes channel level j = cond-not (eqb j 0) _ _ (same-other Low level) (same-other (levelIn (levels bytes j) channel) level)
+
+shown-other : (bytes : List ℕ) (channel : ℕ) (level : Level) (k n : ℕ) → shownBy bytes channel (other level) k n ≡ not (shownBy bytes channel level k n)
+unfolding shownBy
+shown-other bytes channel level k zero = leaves-other bytes channel level 0
+shown-other bytes channel level k (suc n) =
+    cond-not (leb (tick (time bytes (suc n))) k) _ _ (leaves-other bytes channel level (suc n)) (shown-other bytes channel level k n)
+
+-- nothing shows outside the drive
+pub shows-ticks : {bytes : List ℕ} {channel : ℕ} {level : Level} {k : ℕ} → Shows bytes channel level k → k < ticks bytes
+shows-ticks (reported h _ _) = h
+shows-ticks (unreported h _ _) = h
+
+module _ (bytes : List ℕ) (channel : ℕ) (level : Level) where
+  -- after all changes, the test tells what the channel shows
+  at-last : (l : Level) (k : ℕ) → k < ticks bytes → (shownBy bytes channel l k (changes bytes) ≡ true) ↔ Shows bytes channel l k
+  at-last l k now = after bytes channel l k now (changes bytes) (omega arith) (λ i a b. omega arith)
+
+  -- a channel has no two levels in a tick
+  pub shows-one : (k : ℕ) → Shows bytes channel level k → Shows bytes channel (other level) k → ⊥
+  shows-one k s t =
+      let a = at-last level k (shows-ticks s) .1 s in
+      let b = at-last (other level) k (shows-ticks s) .1 t in
+      let c = shown-other bytes channel level k (changes bytes) in
+      let d : not true ≡ true = ap not (sym a) ∙ sym c ∙ b in
+      let z : _≡_ {A = ℕ} 0 1 = cc in
+      omega arith
+
+  -- where it has a level, it has one in the next tick too
+  pub shows-next : (k : ℕ) → Shows bytes channel level k → suc k < ticks bytes
+      → Shows bytes channel level (suc k) ⊎ Shows bytes channel (other level) (suc k)
+  shows-next k _ now = go (shownBy bytes channel level (suc k) (changes bytes)) refl
+    where
+      go : (t : Bool) → shownBy bytes channel level (suc k) (changes bytes) ≡ t → Shows bytes channel level (suc k) ⊎ Shows bytes channel (other level) (suc k)
+      go true e = inl (at-last level (suc k) now .0 e)
+      go false e = inr (at-last (other level) (suc k) now .0 (shown-other bytes channel level (suc k) (changes bytes) ∙ ap not e))
 
 -- THE CHANGES DIVIDE THE TICKS
 

@@ -4,4 +4,5 @@ pub mod Rising
 pub mod Runs
 mod Scan
 pub mod Handed
+pub mod Events
 pub mod Examples

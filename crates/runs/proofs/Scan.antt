@@ -7,7 +7,7 @@ use Prim.Native.Nat.{ℕ, _+_, _≤_, _<_, max, min}
 use native.Mathlib.Decide.{decLe}
 use native.Mathlib.Omega.{arith}
 use Rattle.recording.specs.Reading.{ticks, changes, IsRecording}
-use Rattle.runs.specs.Levels.{Shows, reported, unreported}
+use Rattle.runs.specs.Levels.{Shows}
 use Rattle.recording.specs.Changes.{begins}
 use Rattle.runs.specs.Scan.{NextRun}
 use Rattle.runs.specs.Search.{leavesAt, Decides, Sought}
@@ -16,7 +16,7 @@ use Rattle.recording.specs.declared.Dimensions.{Dimensions}
 use Rattle.runs.specs.declared.Cursor.{Cursor}
 use Rattle.runs.specs.declared.Next.the-variants.{Found, None}
 use Rattle.recording.proofs.Changes.{begins-mono, begins-ticks, begins-end}
-use Rattle.runs.proofs.Levels.{held}
+use Rattle.runs.proofs.Levels.{shows-ticks, held}
 
 -- what the search keeps: change i comes next, and no tick from change j up to there has what is wanted
 pub record Seeking (bytes : List ℕ) (channel : ℕ) (level : Level) (from to j : ℕ) (wanted : Bool) (i : ℕ) : Type 0 where
@@ -38,10 +38,6 @@ other false false e = sym e
 answered : {t : Bool} {A : Type 0} (w : Bool) → (t ≡ true) ↔ A → t ≡ w → Decides w A
 answered true h e = h .0 e
 answered false h e = λ a. let q = h .1 a in let z : _≡_ {A = ℕ} 0 1 = cc in omega arith
-
-shows-ticks : {bytes : List ℕ} {channel : ℕ} {level : Level} {k : ℕ} → Shows bytes channel level k → k < ticks bytes
-shows-ticks (reported h _ _) = h
-shows-ticks (unreported h _ _) = h
 
 -- a change that begins before the end is one
 pub early : (bytes : List ℕ) (i : ℕ) → begins bytes i < ticks bytes → i ≤ changes bytes

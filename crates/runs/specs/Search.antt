@@ -1,4 +1,4 @@
--- For private contracts alone: the search among the changes, two of which make a run.
+-- For private contracts alone: the two levels, and the search among the changes, two of which make a run.
 use mathlib.Core.Path.{_≡_}
 use mathlib.Core.Bool.{Bool, true, false, not, cond}
 use mathlib.Core.List.{List}
@@ -9,6 +9,10 @@ use Rattle.recording.specs.Changes.{begins}
 use Rattle.runs.specs.Levels.{levelIn, Shows}
 use Rattle.runs.specs.declared.Level.{Level}
 use Rattle.runs.specs.declared.Level.the-variants.{High, Low}
+
+abbrev pub other : Level → Level
+other High = Low
+other Low = High
 
 -- the two levels are the same
 abbrev pub sameLevel : Level → Level → Bool

@@ -35,9 +35,6 @@ unfolding branch
 branch-split true a c e = inl (refl, e)
 branch-split false a c e = inr (refl, e)
 
-pub add-two : (n : ℕ) → n + 1 + 1 ≡ n + 2
-add-two n = omega arith
-
 pub head : (text : List ℕ) (at : ℕ) → at < length text → drop at text ≡ getD text at 0 ∷ drop (at + 1) text
 head text at h = rw add-one (drop-cons text at 0 h)
 

@@ -6,30 +6,42 @@ use Prim.Native.Nat.{ℕ, _+_, _<_}
 use native.Mathlib.Omega.{arith}
 use lib.ListN.{length, drop}
 use Rattle.expression.specs.declared.Range.{Range}
-use Rattle.expression.specs.declared.Sign.the-variants.{High, Low}
+use Rattle.expression.specs.declared.Sign.{Sign}
+use Rattle.expression.specs.declared.Sign.the-variants.{High, Low, Rise, Fall}
 use Rattle.expression.specs.declared.Unary.the-variants.{Star, Band}
-use Rattle.tokens.specs.Tokens.{no, branch, bind, starts, ranged, limits, postfix, lettered, cappedRange, cappedUnary, Got-at, Letter-at}
-use Rattle.tokens.specs.Readers.{Offset-at}
-use Rattle.tokens.proofs.Text.{add-two, rest-drop}
+use Rattle.tokens.specs.Tokens.{no, branch, bind, starts, ranged, limits, postfix, signed, lettered, cappedRange, cappedUnary, Got-at, Letter-at}
+use Rattle.tokens.specs.Readers.{Offset-at, Signed-at}
+use Rattle.tokens.proofs.Text.{rest-drop}
 
 module _ (text : List ℕ) (at : ℕ) where
-  -- `!`, and then no letter
-  pub low-none : starts 33 (drop at text) ≡ true → at < length text → ranged 97 16 (drop (at + 1) text) ≡ no → lettered (drop at text) ≡ no
-  unfolding branch bind
-  low-none m l e = rw (m, rest-drop text at l, e)
+  -- a sign of one byte, which is none of those that are looked for before it, and no sign
+  pub low-is : starts 33 (drop at text) ≡ true → at < length text → Signed-at text at (at + 1) Low
+  unfolding signed branch
+  low-is m l = record { ahead = omega arith; read = rw (m, rest-drop text at l) }
 
-  pub low-letter : {k : ℕ} → starts 33 (drop at text) ≡ true → at < length text → Offset-at 97 16 text (at + 1) k → Letter-at text at (at + 2) Low k
-  unfolding branch bind
-  low-letter m l o =
-      record { ahead = omega arith; inside = omega (arith, o .inside); small = o .small; read = rw (m, rest-drop text at l, o .read, add-two at) }
+  module _ (m : starts 33 (drop at text) ≡ false) where
+    pub rise-is : starts 43 (drop at text) ≡ true → at < length text → Signed-at text at (at + 1) Rise
+    unfolding signed branch
+    rise-is n l = record { ahead = omega arith; read = rw (m, n, rest-drop text at l) }
 
-  pub high-none : starts 33 (drop at text) ≡ false → ranged 97 16 (drop at text) ≡ no → lettered (drop at text) ≡ no
-  unfolding branch bind
-  high-none m e = rw (m, e)
+    pub fall-is : starts 43 (drop at text) ≡ false → starts 45 (drop at text) ≡ true → at < length text → Signed-at text at (at + 1) Fall
+    unfolding signed branch
+    fall-is n o l = record { ahead = omega arith; read = rw (m, n, o, rest-drop text at l) }
 
-  pub high-letter : {k : ℕ} → starts 33 (drop at text) ≡ false → Offset-at 97 16 text at k → Letter-at text at (at + 1) High k
-  unfolding branch bind
-  high-letter m o = record { ahead = omega arith; inside = omega (arith, o .inside); small = o .small; read = rw (m, o .read) }
+    pub unsigned : starts 43 (drop at text) ≡ false → starts 45 (drop at text) ≡ false → Signed-at text at at High
+    unfolding signed branch
+    unsigned n o = record { ahead = omega arith; read = rw (m, n, o) }
+
+  -- a sign, and then a letter or none
+  module _ {a : ℕ} {s : Sign} (g : Signed-at text at a s) where
+    pub no-letter : ranged 97 16 (drop a text) ≡ no → lettered (drop at text) ≡ no
+    unfolding bind
+    no-letter e = rw (g .read, e)
+
+    pub letter-is : {k : ℕ} → Offset-at 97 16 text a k → Letter-at text at (a + 1) s k
+    unfolding bind
+    letter-is o =
+        record { ahead = omega (arith, g .ahead); inside = omega (arith, o .inside); small = o .small; read = rw (g .read, o .read) }
 
   pub star-is : starts 42 (drop at text) ≡ true → at < length text → Got-at postfix cappedUnary text at (at + 1) Star
   unfolding branch

@@ -1,8 +1,9 @@
 -- For the private readers alone: what they promise each other. No public contract cites it.
 use mathlib.Core.List.{List}
 use mathlib.Core.Path.{_≡_}
-use Prim.Native.Nat.{ℕ, _+_, _<_}
+use Prim.Native.Nat.{ℕ, _+_, _<_, _≤_}
 use lib.ListN.{length, drop}
+use Rattle.expression.specs.declared.Sign.{Sign}
 use Rattle.tokens.specs.declared.Digits.{Digits}
 use Rattle.tokens.specs.declared.Digits.the-variants.{Value, NoNumber}
 use Rattle.tokens.specs.declared.Bounded.{Bounded}
@@ -13,7 +14,7 @@ use Rattle.tokens.specs.declared.Braces.{Braces}
 use Rattle.tokens.specs.declared.Braces.the-variants.{Limits, NoRange}
 use Rattle.tokens.specs.declared.Offset.{Offset}
 use Rattle.tokens.specs.declared.Offset.the-variants.{By, Outside}
-use Rattle.tokens.specs.Tokens.{no, yes, ranged, numeral, bound, upperEnd, limits, cap, cappedEnd, cappedUpper, cappedRange, Got-at}
+use Rattle.tokens.specs.Tokens.{no, yes, ranged, numeral, bound, upperEnd, limits, signed, cap, cappedEnd, cappedUpper, cappedRange, Got-at}
 
 -- a number, an end, an upper end, a range: where it ends and its value, or that there is none
 abbrev pub NumberAs : List ℕ → ℕ → Digits → Type 0
@@ -41,3 +42,8 @@ pub record Offset-at (first count : ℕ) (text : List ℕ) (at k : ℕ) : Type 0
 abbrev pub OffsetAs : ℕ → ℕ → List ℕ → ℕ → Offset → Type 0
 OffsetAs first count text at (By k) = Offset-at first count text at k
 OffsetAs first count text at Outside = ranged first count (drop at text) ≡ no
+
+-- the sign s is read at `at`, and its letter at a
+pub record Signed-at (text : List ℕ) (at a : ℕ) (s : Sign) : Type 0 where
+  pub ahead : at ≤ a
+  pub read : signed (drop at text) ≡ yes s (drop a text)

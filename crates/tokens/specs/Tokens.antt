@@ -1,5 +1,5 @@
--- What the text of a drill begins with, as a function of the text: a byte, a number, a range, an operator with one operand, a letter;
--- and what is said of a place of the text where one of them was read. How they make a drill is found in `descent`.
+-- What the text of a drill begins with, as a function of the text: a byte, a number, a range, an operator with one operand, a
+-- letter with its sign; and what is said of a place of the text where one of them was read. How they make a drill is found in `descent`.
 use mathlib.Core.Bool.{Bool, true, false}
 use mathlib.Core.List.{List, [], _∷_}
 use mathlib.Core.Path.{_≡_}
@@ -11,7 +11,7 @@ use Rattle.expression.specs.declared.End.{End}
 use Rattle.expression.specs.declared.End.the-variants.{Closed, Open}
 use Rattle.expression.specs.declared.Upper.{Upper}
 use Rattle.expression.specs.declared.Upper.the-variants.{Endless, UpTo}
-use Rattle.expression.specs.declared.Sign.the-variants.{High, Low}
+use Rattle.expression.specs.declared.Sign.the-variants.{High, Low, Rise, Fall}
 use Rattle.expression.specs.declared.Unary.{Unary}
 use Rattle.expression.specs.declared.Unary.the-variants.{Star, Band}
 use Rattle.expression.specs.Expression.{Expression, literal}
@@ -83,11 +83,15 @@ limits s = bind (bound s) (λ e r. bind (expect 44 e r) (λ lo q. bind (upperEnd
 abbrev pub postfix : List ℕ → Got Unary
 postfix s = branch (starts 42 s) (λ _. yes Star (rest s)) (λ _. branch (starts 123 s) (λ _. bind (limits (rest s)) (λ x r. yes (Band x) r)) (λ _. no))
 
--- a letter, or `!` and a letter
+-- the sign before a letter: `!`, `+` or `-`; without one the letter asks for high
+unfoldable pub signed : List ℕ → Got Sign
+signed s =
+    branch (starts 33 s) (λ _. yes Low (rest s))
+    (λ _. branch (starts 43 s) (λ _. yes Rise (rest s)) (λ _. branch (starts 45 s) (λ _. yes Fall (rest s)) (λ _. yes High s)))
+
+-- a letter with its sign
 abbrev pub lettered : List ℕ → Got Expression
-lettered s =
-    branch (starts 33 s) (λ _. bind (ranged 97 16 (rest s)) (λ k r. yes (literal Low k) r))
-    (λ _. bind (ranged 97 16 s) (λ k r. yes (literal High k) r))
+lettered s = bind (signed s) (λ g t. bind (ranged 97 16 t) (λ k r. yes (literal g k) r))
 
 -- a number as it is read: all above 1,000,000 alike
 unfoldable pub cap : ℕ → ℕ

@@ -1,5 +1,5 @@
-// Reads what the text of a drill has at a place: a byte, a number, a range, an operator with one operand, a letter. Nothing is
-// known here of the levels of the grammar, nor of trees.
+// Reads what the text of a drill has at a place: a byte, a number, a range, an operator with one operand, a letter with its sign.
+// Nothing is known here of the levels of the grammar, nor of trees.
 //
 // specs/Tokens.antt says what a text begins with, and what is kept of it.
 use expression::End;
@@ -11,7 +11,7 @@ ghost use mathlib.Core.Path.{_≡_};
 ghost use Prim.Native.Nat.{_<_};
 ghost use lib.ListN.{length};
 ghost use Rattle.tokens.specs.Tokens.{cap, PostfixAs, LetterAs, Seen};
-ghost use Rattle.tokens.specs.Readers.{NumberAs, BoundAs, UpperAs, RangeAs, OffsetAs};
+ghost use Rattle.tokens.specs.Readers.{NumberAs, BoundAs, UpperAs, RangeAs, OffsetAs, Signed-at};
 
 // The place of a byte in a run of bytes.
 enum Offset {
@@ -48,6 +48,9 @@ pub enum Postfix {
     Operator(usize, Unary),
     NoOperator,
 }
+
+// Where the letter of a sign stands, and what the sign asks of it.
+struct Signed(usize, Sign);
 
 // Where a letter ends, what it asks, and its channel.
 pub enum Lettered {
@@ -186,19 +189,33 @@ pub fn postfix_at(text: &[u8], at: usize) -> Postfix
     Postfix::Operator(end, Unary::Band(range))
 }
 
-// A letter, or `!` and a letter.
+// The sign before a letter. Without one the letter itself stands at `at`, and asks for high.
+fn sign_at(text: &[u8], at: usize) -> Signed
+    requires { ⌜ length (now text) < 256 ⌝ }
+    ensures { λ r. ⌜ Signed-at (now (text .entry)) at (r .0) (r .1) ⌝ }
+{
+    if byte_is(text, at, b'!') {
+        return Signed(at + 1, Sign::Low);
+    }
+    if byte_is(text, at, b'+') {
+        return Signed(at + 1, Sign::Rise);
+    }
+    if byte_is(text, at, b'-') {
+        return Signed(at + 1, Sign::Fall);
+    }
+    Signed(at, Sign::High)
+}
+
+// A letter, or `!`, `+` or `-` and a letter.
 pub fn letter_at(text: &[u8], at: usize) -> Lettered
     requires { ⌜ length (now text) < 256 ⌝ }
     ensures { λ r. ⌜ LetterAs (now (text .entry)) at r ⌝ }
 {
-    if byte_is(text, at, b'!') {
-        let Offset::By(channel) = offset_at(text, at + 1, b'a', 16) else {
-            return Lettered::NoLetter;
-        };
-        return Lettered::Letter(at + 2, Sign::Low, channel);
-    }
-    let Offset::By(channel) = offset_at(text, at, b'a', 16) else {
+    let signed = sign_at(text, at);
+    let letter = signed.0;
+    let sign = signed.1;
+    let Offset::By(channel) = offset_at(text, letter, b'a', 16) else {
         return Lettered::NoLetter;
     };
-    Lettered::Letter(at + 1, Sign::High, channel)
+    Lettered::Letter(letter + 1, sign, channel)
 }

@@ -10,10 +10,9 @@ use Rattle.zone.specs.declared.Zone.{Zone}
 use Rattle.zone.specs.declared.MaybeZone.{MaybeZone}
 use Rattle.zone.specs.declared.MaybeZone.the-variants.{Zone as zone, Empty as empty}
 use Rattle.limit.specs.Limit.{Small, most-ticks}
-use Rattle.zone.specs.Zone.{Proper, diagonal}
-use Rattle.zone.proofs.Laws.{proper-band}
+use Rattle.zone.specs.Zone.{diagonal}
+use Rattle.zone.proofs.Laws.{proper-within, proper-band}
 use Rattle.limit.proofs.Means.{small-most, small-least}
-use Rattle.limit.proofs.Times.{≤-trans, tick-≤}
 use Rattle.list.specs.Insert.{capacity, Built, overflow}
 use Rattle.star.specs.Star.{finished, overflow, Star}
 use Rattle.list.specs.Slots.{slot-words, listAt, Kept, KeptBoth, Sound}
@@ -29,8 +28,16 @@ use Rattle.expression.specs.declared.Upper.the-variants.{Endless, UpTo}
 use Rattle.expression.specs.Refusal.{figure, Wrong}
 use Rattle.expression.proofs.Laws.{right-range}
 use Rattle.meaning.specs.Satisfies.{upperLimit, lowerLimit}
-use Rattle.meaning.specs.Lists.{value, overflow, ended, longest, rangeBand, Closes}
-use Rattle.values.specs.Values.{Standing}
+use Rattle.meaning.specs.Lists.{Value, value, overflow, ended, longest, rangeBand, Closes}
+use Rattle.values.specs.declared.Evaluated.{Evaluated}
+use Rattle.values.specs.declared.Evaluated.the-variants.{Listed, Overflow}
+use Rattle.values.specs.Values.{Standing, EvaluatedAs}
+
+-- ---- a value that is said in another way
+
+pub evaluated-map : (P Q : Value → Type 0) (ws : List ℤ) (base : ℕ) → ((v : Value) → P v → Q v) → (r : Evaluated) → EvaluatedAs P ws base r → EvaluatedAs Q ws base r
+evaluated-map P Q ws base f (Listed n k) s = record { list = s .list; means = f _ (s .means); holds = s .holds }
+evaluated-map P Q ws base f Overflow s = f overflow s
 
 -- ---- a list that was built
 
@@ -77,18 +84,11 @@ kept-region h g i j k =
 
 -- ---- the band of a range
 
-pub sound-within : {from to : ℕ} {z : Zone} → to ≤ 1_000_000 → Proper from to z → Proper 0 1_000_000 z
-sound-within h p =
-    record {
-      tight = p .tight;
-      inside = record { inside = λ x y i. let k = p .inside .inside x y i in (≤-trans (tick-≤ (omega arith)) (k .0), k .1, ≤-trans (k .2) (tick-≤ h)) };
-    }
-
 pub band-sound : (from to : ℕ) (r : Range) → to ≤ 1_000_000 → SoundBand (rangeBand from to r)
 band-sound from to r h = go (rangeBand from to r) refl
   where
     go : (b : MaybeZone) → rangeBand from to r ≡ b → SoundBand b
-    go (zone z) e = sound-within h (proper-band from to (longest from to (r .hi)) (lowerLimit (r .lo)) e)
+    go (zone z) e = proper-within (omega arith) h (proper-band from to (longest from to (r .hi)) (lowerLimit (r .lo)) e)
     go empty e = tt
 
 -- the ends of a right range are small

@@ -278,6 +278,14 @@ proper-run s e a b c =
           };
     }
 
+-- a zone inside some ticks is inside more of them
+pub proper-within : {from to s e : ℕ} {z : Zone} → from ≤ s → e ≤ to → Proper s e z → Proper from to z
+proper-within a b p =
+    record {
+      tight = p .tight;
+      inside = record { inside = λ x y i. let k = p .inside .inside x y i in (times.≤-trans (times.tick-≤ a) (k .0), k .1, times.≤-trans (k .2) (times.tick-≤ b)) };
+    }
+
 pub proper-diagonal : (from to : ℕ) → from ≤ to → Proper from to (diagonal from to)
 proper-diagonal from to h =
     record { tight = diagonal-means from to refl .tight h; inside = record { inside = λ x y p. let m = diagonal-members from to x y .0 p in (m .0, times.≈-≤ (m .1) .0, m .2) } }
