@@ -3,8 +3,9 @@
 use std::hint::black_box;
 use std::time::{Duration, Instant};
 
-use crate::examples::{pulses, recording};
+use crate::examples::{pulses, recording, with_runs};
 use crate::finder::{self, Returned, WORK_WORDS};
+use crate::lesson::PURSE;
 use crate::proved::{self, Proved};
 use crate::random::Rng;
 use crate::recording::{encode, tick, Change, Head, MAX_LENGTH, RECORD};
@@ -17,6 +18,8 @@ struct Row {
     name: String,
     recording: Vec<u8>,
     drill: String,
+    /// The rounds left that the call is told, none for a drill by itself.
+    left: Option<u64>,
 }
 
 impl Row {
@@ -25,6 +28,14 @@ impl Row {
             name: name.into(),
             recording,
             drill: drill.into(),
+            left: None,
+        }
+    }
+
+    fn told(self, left: u64) -> Row {
+        Row {
+            left: Some(left),
+            ..self
         }
     }
 }
@@ -56,6 +67,7 @@ fn tables() -> Vec<(&'static str, Vec<Row>)> {
         ("Growth with the rounds", growth_with_rounds()),
         ("Growth with the changes", growth_with_changes()),
         ("Rises and falls", events()),
+        ("Calls told the rounds left", told_rounds()),
     ]
 }
 
@@ -85,16 +97,9 @@ fn times((plain, theirs): (f64, Option<f64>)) -> String {
 
 /// Prints a row and gives its times.
 fn print_row(row: &Row, proved: Option<Proved>) -> Result<(f64, Option<f64>), String> {
-    let mut plain = Bench::new(row);
-    let returned = plain.plain();
-    let mut theirs = Bench::new(row);
-    if let Some(proved) = proved {
-        let their_return = theirs.proved(proved);
-        if their_return != returned || theirs.answer != plain.answer {
-            return Err(format!("{}: {their_return:?}, not {returned:?}", row.name));
-        }
-    }
-    let best = by_turns(&mut plain, proved);
+    let mut bench = Bench::new(row);
+    let returned = bench.agreed(proved)?;
+    let best = by_turns(&mut bench, proved);
     println!(
         "{:<44} {:>7} {:>5} {:>7} {}",
         row.name,
@@ -122,22 +127,46 @@ impl Bench<'_> {
         }
     }
 
-    fn plain(&mut self) -> Returned {
+    /// What is returned, and the rounds left afterwards if the call is told any.
+    fn plain(&mut self) -> (Returned, Option<u64>) {
         let (recording, drill) = (&self.row.recording, self.row.drill.as_bytes());
-        finder::find(recording, drill, &mut self.answer, &mut self.work)
+        let (answer, work) = (&mut self.answer, &mut self.work);
+        let Some(left) = self.row.left else {
+            return (finder::find(recording, drill, answer, work), None);
+        };
+        let (returned, left) = finder::find_with_rounds(recording, drill, left, answer, work);
+        (returned, Some(left))
     }
 
-    fn proved(&mut self, proved: Proved) -> Returned {
+    fn proved(&mut self, proved: Proved) -> (Returned, Option<u64>) {
         let (recording, drill) = (&self.row.recording, self.row.drill.as_bytes());
-        let mut counts = [0; 2];
         let (answer, work) = (&mut self.answer, &mut self.work);
-        let number = (proved.find)(recording, drill, answer, work, &mut counts);
+        let mut counts = [0; 2];
+        let mut left = self.row.left;
+        let number = match &mut left {
+            None => (proved.find)(recording, drill, answer, work, &mut counts),
+            Some(left) => (proved.within)(recording, drill, left, answer, work, &mut counts),
+        };
         let [zones, rounds] = counts;
-        Returned {
+        let returned = Returned {
             number,
             zones,
             rounds,
+        };
+        (returned, left)
+    }
+
+    /// What both finders return, if they do the same.
+    fn agreed(&mut self, proved: Option<Proved>) -> Result<Returned, String> {
+        let plain = self.plain();
+        let mut other = Bench::new(self.row);
+        if let Some(proved) = proved {
+            let theirs = other.proved(proved);
+            if theirs != plain || other.answer != self.answer {
+                return Err(format!("{}: {theirs:?}, not {plain:?}", self.row.name));
+            }
         }
+        Ok(plain.0)
     }
 }
 
@@ -156,7 +185,10 @@ fn by_turns(bench: &mut Bench, proved: Option<Proved>) -> (f64, Option<f64>) {
     (best[0], proved.map(|_| best[1]))
 }
 
-fn best_of_many(mut call: impl FnMut() -> Returned) -> f64 {
+/// The best time of a call in microseconds. It stays a function of its own, so that the loop around the
+/// clock is not mixed into what it times.
+#[inline(never)]
+fn best_of_many<R>(mut call: impl FnMut() -> R) -> f64 {
     const LEAST_TIME: Duration = Duration::from_millis(15);
     const LEAST_CALLS: u32 = 8;
     let begin = Instant::now();
@@ -179,7 +211,7 @@ fn accepted(make: impl Fn(&mut Rng) -> Vec<u8>, drills: &[&str]) -> Vec<u8> {
         let mut work = vec![0; WORK_WORDS];
         drills.iter().all(|drill| {
             let drill = drill.as_bytes();
-            finder::find_within(recording, drill, &mut answer, &mut work, BUDGET)
+            finder::find_if_quick(recording, drill, &mut answer, &mut work, BUDGET)
                 .is_some_and(|found| found.returned.is_accepted() && found.returned.zones > 0)
         })
     };
@@ -314,14 +346,16 @@ fn segmented(rng: &mut Rng, segments: u32) -> Vec<u8> {
     channels_switching(400 * segments, &switches)
 }
 
+/// One channel with so many runs of this length, 5 ticks apart.
+fn apart(runs: u32, length: u32) -> Vec<u8> {
+    let changes: Vec<(u32, u16)> = (0..runs)
+        .flat_map(|k| [(k, 0, 1), (k, length, 0)])
+        .map(|(k, after, level)| (10 * (k * (length + 5) + after), level))
+        .collect();
+    recording(10 * runs * (length + 5), 1, &changes)
+}
+
 fn crowded_stars() -> Vec<Row> {
-    let apart = |runs: u32, length: u32| {
-        let changes: Vec<(u32, u16)> = (0..runs)
-            .flat_map(|k| [(k, 0, 1), (k, length, 0)])
-            .map(|(k, after, level)| (10 * (k * (length + 5) + after), level))
-            .collect();
-        recording(10 * runs * (length + 5), 1, &changes)
-    };
     vec![
         Row::new("(a{0,1})*, 64 runs of 200", apart(64, 200), "(a{0,1})*"),
         Row::new("(a{0,1})*, 127 runs of 200", apart(127, 200), "(a{0,1})*"),
@@ -421,4 +455,164 @@ fn events() -> Vec<Row> {
         Row::new("(+a|-a|a)*, 42 runs", pulses(42), "(+a|-a|a)*"),
         Row::new("(+a.a.-a.!a)*, 15 runs", pulses(15), "(+a.a.-a.!a)*"),
     ]
+}
+
+/// The same work as in rows of other tables, with the rounds counted down: enough of them, just
+/// enough, and too few.
+fn told_rounds() -> Vec<Row> {
+    let ordinary = ["b.a{200,500}.c", "((d.!d){0,900})*{1000,}"];
+    let drive = accepted(ordinary_drive, &ordinary);
+    let mut rows: Vec<Row> = ordinary
+        .into_iter()
+        .map(|drill| Row::new(drill, drive.clone(), drill).told(PURSE))
+        .collect();
+    let run = |left: u64| {
+        let name = format!("(a{{0,1}})*, one run of 10000, told {left}");
+        Row::new(name, apart(1, 10_000), "(a{0,1})*").told(left)
+    };
+    rows.extend([run(PURSE), run(10_000), run(5_000), run(0)]);
+    rows.extend([
+        Row::new("(a{0,1})*, 127 runs of 200", apart(127, 200), "(a{0,1})*").told(PURSE),
+        Row::new("(a{1,1})*, one run of 120", apart(1, 120), "(a{1,1})*").told(PURSE),
+        Row::new("(a{1,1})*, one run of 200", apart(1, 200), "(a{1,1})*").told(PURSE),
+    ]);
+    rows
+}
+
+/// A drill that spends any number of rounds up to a whole purse over lists of one length.
+struct Spender {
+    name: &'static str,
+    recording: Vec<u8>,
+    drill: &'static str,
+    /// Rounds after which the list is as long as it gets.
+    first: u64,
+    /// Rounds after these that are timed.
+    timed: u64,
+}
+
+impl Spender {
+    /// The row of a call that is stopped after so many rounds.
+    fn stopped_after(&self, rounds: u64) -> Row {
+        Row::new(self.name, self.recording.clone(), self.drill).told(rounds)
+    }
+
+    /// Microseconds for one of the timed rounds, by both finders.
+    fn per_round(&self, proved: Option<Proved>) -> Result<(f64, Option<f64>), String> {
+        let (begin, end) = (
+            self.stopped_after(self.first),
+            self.stopped_after(self.first + self.timed),
+        );
+        let (begin, end) = (best_of_few(&begin, proved)?, best_of_few(&end, proved)?);
+        let each = |begin: f64, end: f64| (end - begin) / self.timed as f64;
+        let theirs = begin.1.zip(end.1).map(|(begin, end)| each(begin, end));
+        Ok((each(begin.0, end.0), theirs))
+    }
+}
+
+/// The best time of each finder in microseconds, for calls that take long.
+fn best_of_few(row: &Row, proved: Option<Proved>) -> Result<(f64, Option<f64>), String> {
+    const CALLS: u32 = 3;
+    let mut bench = Bench::new(row);
+    let returned = bench.agreed(proved)?;
+    if returned.number != 13 {
+        return Err(format!("{}: {returned:?}, and is not stopped", row.name));
+    }
+    let mut best = [f64::INFINITY; 2];
+    let timed = |call: &mut dyn FnMut() -> (Returned, Option<u64>)| {
+        let start = Instant::now();
+        black_box(call());
+        start.elapsed().as_secs_f64() * 1e6
+    };
+    for _ in 0..CALLS {
+        best[0] = best[0].min(timed(&mut || bench.plain()));
+        if let Some(proved) = proved {
+            best[1] = best[1].min(timed(&mut || bench.proved(proved)));
+        }
+    }
+    Ok((best[0], proved.map(|_| best[1])))
+}
+
+/// Lists from the shortest to the longest, each with a run on which the rounds do not end before a
+/// purse does.
+fn spenders() -> Vec<Spender> {
+    let endless = (0, PURSE as u32 + 1);
+    let behind = endless.1 + 1;
+    let crowd: Vec<(u32, u32)> = (0..126)
+        .map(|k| (behind + 2 * k, behind + 2 * k + 1))
+        .collect();
+    let crowd = [&[endless][..], &crowd].concat();
+    let ladder = with_runs(behind + 127, &[&[(behind, behind + 127)], &[endless]]);
+    vec![
+        Spender {
+            name: "1 zone, 1 inner zone",
+            recording: with_runs(behind, &[&[endless]]),
+            drill: "(a{0,1})*",
+            first: 0,
+            timed: PURSE,
+        },
+        Spender {
+            name: "127 zones, 127 inner, each touches itself",
+            recording: with_runs(behind + 252, &[&crowd]),
+            drill: "(a{0,1})*",
+            first: 0,
+            timed: 5_000,
+        },
+        Spender {
+            name: "128 zones, 2 inner, half of all pairs touch",
+            recording: ladder.clone(),
+            drill: "(a{1,1}|b{0,1})*",
+            first: 127,
+            timed: 5_000,
+        },
+        // The inner star has 127 rounds.
+        Spender {
+            name: "128 zones, 128 inner, half of all pairs touch",
+            recording: ladder,
+            drill: "((a{1,1})*{<0,}|b{0,1})*",
+            first: 127,
+            timed: 500,
+        },
+    ]
+}
+
+/// Prints what a round costs, and what all rounds of a sheet would cost at that.
+pub fn purse() -> Result<(), String> {
+    let proved = proved::linked();
+    println!("A round in microseconds, and {PURSE} rounds in seconds.");
+    if proved.is_none() {
+        println!("The proved library is not linked (--features proved): plain times alone.");
+    }
+    println!(
+        "\n{:<46} {:>11} {:>11} {:>7} {:>9} {:>9}",
+        "", "plain", "proved", "ratio", "plain", "proved"
+    );
+    for spender in spenders() {
+        let (plain, theirs) = spender.per_round(proved)?;
+        let purse = |round: f64| format!("{:>9.3}", round * PURSE as f64 / 1e6);
+        println!(
+            "{:<46} {} {} {}",
+            spender.name,
+            times((plain, theirs)),
+            purse(plain),
+            theirs.map_or(format!("{:>9}", "-"), purse)
+        );
+    }
+    Ok(())
+}
+
+#[cfg(test)]
+mod tests {
+    use super::*;
+
+    /// The list is full after the first rounds, and the drill is stopped however many it is told.
+    #[test]
+    fn spenders_are_stopped() {
+        for spender in spenders() {
+            for rounds in [spender.first, spender.first + 20] {
+                let row = spender.stopped_after(rounds);
+                let (returned, left) = Bench::new(&row).plain();
+                assert_eq!((returned.number, left), (13, Some(0)), "{}", spender.name);
+            }
+        }
+    }
 }

@@ -135,6 +135,22 @@ pub fn compare(drill: &Drill, recording: &Recording, zones: &[Zone]) -> Result<u
     Ok(fit.size() + fine.size())
 }
 
+/// The same for the bytes of a call that was accepted. Drives of more than so many ticks are passed
+/// over, with no stretch compared.
+pub fn compare_accepted(
+    recording: &[u8],
+    drill: &[u8],
+    zones: &[Zone],
+    most_ticks: u32,
+) -> Result<usize, String> {
+    let recording = Recording::read(recording).map_err(|_| "accepted a wrong recording")?;
+    let drill = Drill::read(drill, recording.channels()).map_err(|_| "accepted a wrong drill")?;
+    if recording.ticks() > most_ticks {
+        return Ok(0);
+    }
+    compare(&drill, &recording, zones)
+}
+
 fn report(found: Option<(usize, usize)>, parts: usize, fault: &str) -> Result<(), String> {
     found.map_or(Ok(()), |(start, end)| {
         Err(format!(

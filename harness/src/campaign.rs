@@ -1,24 +1,28 @@
 //! The campaign: the proved library, the plain matcher and brute force on random inputs, until
 //! the time is over or something does not agree.
 
-use std::fmt;
 use std::time::{Duration, Instant};
 
 use crate::brute;
+use crate::compare::{Call, Chain, Outcome, Sheet};
 use crate::drill::Drill;
 use crate::finder::{self, Found, Returned, WORK_WORDS};
 use crate::inputs::{self, Input};
-use crate::proved::{self, Proved};
+use crate::lent::Lent;
+use crate::lesson;
+use crate::proved::{self, Proved, LESSON_ROOM};
 use crate::random::Rng;
 use crate::recording::{times, Recording};
 use crate::refusal::Refusal;
+use crate::tally::Tally;
 use crate::zone::{Zone, WORDS};
 use crate::zones::{Star, MAX_ZONES};
 
 /// The longest drive, in ticks, that goes through brute force.
 const MAX_BRUTE_TICKS: u32 = 12;
-/// Pairs of zones that the rounds of one call may compose; the few calls above it are passed over.
-const BUDGET: u64 = 400_000;
+/// Pairs of zones that the rounds of one drill may compose; the few cases with a drill above it are
+/// passed over.
+const MOST_PAIRS: u64 = 400_000;
 
 pub struct Campaign {
     pub seed: u64,
@@ -55,190 +59,239 @@ impl Campaign {
 
     fn case(&self, case: u64, proved: Option<Proved>, tally: &mut Tally) -> Result<(), String> {
         let mut rng = Rng::new(self.seed, case);
-        let input = inputs::any(&mut rng);
-        let Some(lent) = Lent::to(&mut rng, &input) else {
-            tally.passed_over += 1;
-            return Ok(());
+        // A lesson or a chain is several calls, so it comes up less often than one call.
+        let compared = match rng.below(40) {
+            0 => lesson_case(&mut rng, proved, tally),
+            1 => chain_case(&mut rng, proved, tally),
+            _ => call_case(&mut rng, proved, tally),
         };
-        compare(&mut rng, &input, &lent, proved, tally).map_err(|fault| {
+        compared.map_err(|fault| {
             let seed = self.seed;
             format!(
-                "case {case} of seed {seed} does not agree: {fault}\n{}\
-                 again: harness campaign --seed {seed} --only {case}",
-                told(&input, &lent)
+                "case {case} of seed {seed} does not agree: {fault}\
+                 again: harness campaign --seed {seed} --only {case}"
             )
         })
     }
 }
 
+/// A drill by itself, and told the rounds left.
+fn call_case(rng: &mut Rng, proved: Option<Proved>, tally: &mut Tally) -> Result<(), String> {
+    let input = inputs::any(rng);
+    let Some(lent) = lent_to(rng, &input) else {
+        tally.passed_over += 1;
+        return Ok(());
+    };
+    compare_call(rng, &input, &lent, proved, tally).map_err(|fault| {
+        let drill = escaped("drill", &input.drill);
+        format!(
+            "{fault}\n{}{drill}{}",
+            hex(&input.recording),
+            lengths(&lent)
+        )
+    })
+}
+
 /// One input through everything that has an opinion on it.
-fn compare(
+fn compare_call(
     rng: &mut Rng,
     input: &Input,
     lent: &Lent,
     proved: Option<Proved>,
     tally: &mut Tally,
 ) -> Result<(), String> {
-    let mut plain = lent.clone();
-    let found = plain.find(input).ok_or("over budget the second time")?;
-    check_buffers(lent, &plain, found.returned)?;
+    let call = Call {
+        recording: &input.recording,
+        drill: &input.drill,
+        lent,
+    };
+    let (found, outcome) = find(input, lent).ok_or("too slow the second time")?;
+    let number = found.returned.number;
+    if number > Refusal::AnswerShort.number() {
+        return Err(format!(
+            "the plain matcher gives a drill by itself {number}"
+        ));
+    }
+    lent.check_after(&outcome.after, found.returned)?;
     if let Some(proved) = proved {
-        compare_proved(input, lent, &plain, found.returned, proved)?;
+        call.compare(None, &outcome, proved)?;
         compare_front(rng, lent, found.returned, proved)?;
     }
     tally.note(&found);
     if found.returned.is_accepted() {
-        let zones = plain.listed(found.returned);
+        let zones = finder::listed(found.returned, outcome.after.answer());
         check_accepted(input, &zones, &found.stars, tally)?;
     }
+    // Each drill with rounds, and some of those without.
+    let finished = call.finished(&outcome);
+    if finished > 0 || rng.once_in(4) {
+        let left = rounds_about(rng, finished);
+        note_told(&call.compare_told(left, &outcome, proved)?, tally);
+    }
     Ok(())
 }
 
-/// Two buffers of random words, each lent from the middle of some more that nobody may touch.
-#[derive(Clone, PartialEq, Eq)]
-struct Lent {
-    answer: Vec<i32>,
-    work: Vec<i32>,
+/// The plain matcher on a drill by itself, if it is quick.
+fn find(input: &Input, lent: &Lent) -> Option<(Found, Outcome)> {
+    let mut after = lent.clone();
+    let (answer, work) = after.lend();
+    let Input { recording, drill } = input;
+    let found = finder::find_if_quick(recording, drill, answer, work, MOST_PAIRS)?;
+    let outcome = Outcome {
+        returned: found.returned,
+        left: None,
+        after,
+    };
+    Some((found, outcome))
 }
 
-/// Words on either side of a lent buffer.
-const MARGIN: usize = 8;
+/// Buffers of all sorts of lengths, or nothing where the call would take too long.
+fn lent_to(rng: &mut Rng, input: &Input) -> Option<Lent> {
+    let ample = Lent::of(MAX_ZONES * WORDS, WORK_WORDS, rng);
+    let (found, _) = find(input, &ample)?;
+    let filled = found.returned.zones as usize * WORDS;
+    let answer = match rng.below(8) {
+        0 => filled.saturating_sub(1),
+        1 => filled,
+        2 => filled + 1,
+        3 => rng.below(filled as u64 + 1) as usize,
+        _ => filled + rng.below(100) as usize,
+    };
+    let work = work_words(rng);
+    Some(Lent::of(answer, work, rng))
+}
 
-impl Lent {
-    /// Buffers of all sorts of lengths, or nothing where the call would take too long.
-    fn to(rng: &mut Rng, input: &Input) -> Option<Lent> {
-        let mut ample = Lent::of(MAX_ZONES * WORDS, WORK_WORDS, rng);
-        let filled = ample.find(input)?.returned.zones as usize * WORDS;
-        let answer = match rng.below(8) {
-            0 => filled.saturating_sub(1),
-            1 => filled,
-            2 => filled + 1,
-            3 => rng.below(filled as u64 + 1) as usize,
-            _ => filled + rng.below(100) as usize,
+fn work_words(rng: &mut Rng) -> usize {
+    match rng.below(24) {
+        0 => WORK_WORDS - 1,
+        1 => rng.below(WORK_WORDS as u64) as usize,
+        2 => 0,
+        3 => WORK_WORDS + rng.below(200) as usize,
+        _ => WORK_WORDS,
+    }
+}
+
+/// Buffers for several drills of one sheet, whatever they list.
+fn lent_to_several(rng: &mut Rng) -> Lent {
+    let answer = match rng.below(8) {
+        0 => 0,
+        1 | 2 => rng.below(40) as usize,
+        3 => rng.below((MAX_ZONES * WORDS) as u64) as usize,
+        _ => MAX_ZONES * WORDS + rng.below(10) as usize,
+    };
+    let work = work_words(rng);
+    Lent::of(answer, work, rng)
+}
+
+/// Rounds to be told where a drill finishes so many: none, about as many, any at all.
+fn rounds_about(rng: &mut Rng, finished: u64) -> u64 {
+    match rng.below(10) {
+        0 => 0,
+        1 | 2 => finished.saturating_sub(1),
+        3 | 4 => finished,
+        5 | 6 => finished + 1,
+        7 => rng.below(finished + 2),
+        8 => u64::MAX - rng.below(2),
+        _ => rng.number(),
+    }
+}
+
+fn note_told(outcome: &Outcome, tally: &mut Tally) {
+    tally.told.note(outcome.returned.number);
+    let took_the_last = outcome.returned.rounds > 0 && outcome.left == Some(0);
+    tally.last_rounds += u64::from(took_the_last);
+}
+
+/// Several drills in a row, with about as many rounds as they need together, or fewer.
+fn chain_case(rng: &mut Rng, proved: Option<Proved>, tally: &mut Tally) -> Result<(), String> {
+    let input = inputs::chain(rng);
+    let drills: Vec<&[u8]> = input.drills.iter().map(Vec::as_slice).collect();
+    let lent = lent_to_several(rng);
+    if !are_quick(&input.recording, &drills) {
+        tally.passed_over += 1;
+        return Ok(());
+    }
+    let needed = rounds_of(&input.recording, &drills, &lent);
+    let purse = if rng.once_in(2) {
+        rng.below(needed + 1)
+    } else {
+        rounds_about(rng, needed)
+    };
+    let chain = Chain {
+        recording: &input.recording,
+        drills: &drills,
+        purse,
+        lent: &lent,
+    };
+    let outcomes = chain.compare(proved).map_err(|fault| {
+        let drills: String = drills.iter().map(|one| escaped("drill", one)).collect();
+        let lengths = lengths(&lent);
+        let recording = hex(&input.recording);
+        format!("{fault}\n{recording}{drills}{purse} rounds\n{lengths}")
+    })?;
+    note_chain(&outcomes, tally);
+    Ok(())
+}
+
+/// Rounds that drills finish together where there is no end to them.
+fn rounds_of(recording: &[u8], drills: &[&[u8]], lent: &Lent) -> u64 {
+    let finished = |drill: &&[u8]| {
+        let call = Call {
+            recording,
+            drill,
+            lent,
         };
-        let work = match rng.below(24) {
-            0 => WORK_WORDS - 1,
-            1 => rng.below(WORK_WORDS as u64) as usize,
-            2 => 0,
-            3 => WORK_WORDS + rng.below(200) as usize,
-            _ => WORK_WORDS,
-        };
-        Some(Lent::of(answer, work, rng))
-    }
-
-    fn of(answer: usize, work: usize, rng: &mut Rng) -> Lent {
-        Lent {
-            answer: rng.words(answer + 2 * MARGIN),
-            work: rng.words(work + 2 * MARGIN),
-        }
-    }
-
-    fn find(&mut self, input: &Input) -> Option<Found> {
-        let (answer, work) = self.lend();
-        finder::find_within(&input.recording, &input.drill, answer, work, BUDGET)
-    }
-
-    fn lend(&mut self) -> (&mut [i32], &mut [i32]) {
-        (inner_mut(&mut self.answer), inner_mut(&mut self.work))
-    }
-
-    fn answer(&self) -> &[i32] {
-        inner(&self.answer)
-    }
-
-    fn work(&self) -> &[i32] {
-        inner(&self.work)
-    }
-
-    fn listed(&self, returned: Returned) -> Vec<Zone> {
-        let words = self.answer().as_chunks::<WORDS>().0;
-        let zones = words.iter().take(returned.zones as usize);
-        zones.map(|&words| Zone::from_words(words)).collect()
-    }
-}
-
-fn inner(words: &[i32]) -> &[i32] {
-    &words[MARGIN..words.len() - MARGIN]
-}
-
-fn inner_mut(words: &mut [i32]) -> &mut [i32] {
-    let end = words.len() - MARGIN;
-    &mut words[MARGIN..end]
-}
-
-/// The buffers after a call, by document 01's table.
-fn check_buffers(before: &Lent, after: &Lent, returned: Returned) -> Result<(), String> {
-    let filled = returned.zones as usize * WORDS;
-    let cleared = match returned.number {
-        0 | 10 | 11 => WORK_WORDS,
-        _ => 0,
+        call.finished(&call.plain(None))
     };
-    let expected = |old: &[i32], new: &[i32], written: usize| {
-        let end = MARGIN + written;
-        old.len() == new.len() && old[..MARGIN] == new[..MARGIN] && old[end..] == new[end..]
-    };
-    if !expected(&before.answer, &after.answer, filled) {
-        return Err("the plain matcher wrote behind the front of the answer".into());
-    }
-    if !expected(&before.work, &after.work, cleared) {
-        return Err("the plain matcher wrote into work words that are not its own".into());
-    }
-    if after.work()[..cleared].iter().any(|&word| word != 0) {
-        return Err("the plain matcher left work words that are not zero".into());
-    }
-    Ok(())
+    drills.iter().map(finished).sum()
 }
 
-/// The proved library must return the same and leave the same, word for word, margins included.
-fn compare_proved(
-    input: &Input,
-    lent: &Lent,
-    plain: &Lent,
-    returned: Returned,
-    proved: Proved,
-) -> Result<(), String> {
-    let mut theirs = lent.clone();
-    let mut counts = [u64::MAX, u64::MAX, 0xC0DE, 0xC0DE];
-    let number = call(proved, input, &mut theirs, &mut counts[..2]);
-    let [zones, rounds, behind @ ..] = counts;
-    let their_return = Returned {
-        number,
-        zones,
-        rounds,
-    };
-    if their_return != returned {
-        return Err(format!(
-            "proved returned {their_return:?}, plain {returned:?}"
-        ));
+fn note_chain(outcomes: &[Outcome], tally: &mut Tally) {
+    let mut stopped = false;
+    for outcome in outcomes {
+        note_told(outcome, tally);
+        tally.after_13 += u64::from(stopped && outcome.returned.is_accepted());
+        stopped |= outcome.returned.number == 13;
     }
-    if behind != [0xC0DE; 2] {
-        return Err("proved wrote behind its counts".into());
-    }
-    differ("answer", &theirs.answer, &plain.answer)?;
-    differ("work", &theirs.work, &plain.work)?;
-    // With no place for its counts the call does nothing.
-    let mut untouched = lent.clone();
-    let number = call(proved, input, &mut untouched, &mut counts[..1]);
-    if number != proved::NO_COUNTS || untouched != *lent || counts[0] != zones {
-        return Err(format!("proved returned {number} with one count, or wrote"));
-    }
-    Ok(())
 }
 
-fn call(proved: Proved, input: &Input, lent: &mut Lent, counts: &mut [u64]) -> u32 {
-    let (answer, work) = lent.lend();
-    (proved.find)(&input.recording, &input.drill, answer, work, counts)
-}
-
-fn differ(name: &str, theirs: &[i32], plain: &[i32]) -> Result<(), String> {
-    let first = theirs.iter().zip(plain).position(|(t, p)| t != p);
-    first.map_or(Ok(()), |at| {
-        let (theirs, plain) = (theirs[at], plain[at]);
-        let word = at as i64 - MARGIN as i64;
-        Err(format!(
-            "proved left {theirs} in {name} word {word}, plain {plain}"
-        ))
+/// Whether no drill takes too long.
+fn are_quick(recording: &[u8], drills: &[&[u8]]) -> bool {
+    let mut answer = [0; MAX_ZONES * WORDS];
+    let mut work = [0; WORK_WORDS];
+    drills.iter().all(|drill| {
+        let found = finder::find_if_quick(recording, drill, &mut answer, &mut work, MOST_PAIRS);
+        found.is_some()
     })
+}
+
+/// A whole sheet.
+fn lesson_case(rng: &mut Rng, proved: Option<Proved>, tally: &mut Tally) -> Result<(), String> {
+    let input = inputs::sheet(rng);
+    let lent = lent_to_several(rng);
+    let room = LESSON_ROOM + *rng.pick(&[0, 0, 1, 999]);
+    let drills = lesson::drills(&input.text).unwrap_or_default();
+    if !are_quick(&input.recording, &drills) {
+        tally.passed_over += 1;
+        return Ok(());
+    }
+    let sheet = Sheet {
+        recording: &input.recording,
+        text: &input.text,
+        lent: &lent,
+    };
+    let taught = sheet
+        .compare(proved, room, MAX_BRUTE_TICKS)
+        .map_err(|fault| {
+            let text = escaped("sheet", &input.text);
+            let lengths = lengths(&lent);
+            let recording = hex(&input.recording);
+            format!("{fault}\n{recording}{text}{lengths}room for {room} bytes\n")
+        })?;
+    tally.lessons.note(taught.lesson.number);
+    tally.stretches += taught.stretches;
+    note_chain(&taught.drills, tally);
+    Ok(())
 }
 
 fn compare_front(
@@ -303,103 +356,20 @@ fn is_half_down(ms: u32) -> bool {
     ms % 20 == 5
 }
 
-/// All that is needed to make a call again.
-fn told(input: &Input, lent: &Lent) -> String {
-    let hex: String = input
-        .recording
-        .iter()
-        .map(|byte| format!("{byte:02x}"))
-        .collect();
-    format!(
-        "recording, {} bytes: {hex}\ndrill, {} bytes: \"{}\"\nanswer {} words, work {} words\n",
-        input.recording.len(),
-        input.drill.len(),
-        input.drill.escape_ascii(),
-        lent.answer().len(),
-        lent.work().len(),
-    )
+/// What is needed to make a case again.
+fn hex(recording: &[u8]) -> String {
+    let hex: String = recording.iter().map(|byte| format!("{byte:02x}")).collect();
+    format!("recording, {} bytes: {hex}\n", recording.len())
 }
 
-/// What was compared.
-#[derive(Default)]
-struct Tally {
-    calls: u64,
-    /// By returned number, 0 being acceptance.
-    returned: [u64; Refusal::LAST + 1],
-    /// Accepted drills with a bound that is not reached.
-    not_reached: u64,
-    /// Accepted recordings with a time or a duration that is a half and goes down.
-    halves_down: u64,
-    /// Accepted drills with a rise that lists a zone.
-    rises: u64,
-    /// Accepted drills with a fall that lists a zone.
-    falls: u64,
-    zones: u64,
-    stars: u64,
-    most_rounds: u64,
-    stretches: usize,
-    passed_over: u64,
+fn escaped(what: &str, text: &[u8]) -> String {
+    let (bytes, text) = (text.len(), text.escape_ascii());
+    format!("{what}, {bytes} bytes: \"{text}\"\n")
 }
 
-impl Tally {
-    fn note(&mut self, found: &Found) {
-        self.calls += 1;
-        self.returned[found.returned.number as usize] += 1;
-        self.zones += found.returned.zones;
-        self.stars += found.stars.len() as u64;
-        let rounds = found.stars.iter().map(|star| star.rounds).max();
-        self.most_rounds = self.most_rounds.max(rounds.unwrap_or(0));
-    }
-
-    /// What came up in no call, of the refusals, bounds that are not reached, halves that go down,
-    /// rises and falls.
-    fn missing(&self) -> Vec<String> {
-        let mut missing: Vec<String> = (1..=Refusal::LAST)
-            .filter(|&number| self.returned[number] == 0)
-            .map(|number| format!("refused {number}"))
-            .collect();
-        let accepted = [
-            (self.not_reached, "a bound that is not reached"),
-            (self.halves_down, "a half that goes down"),
-            (self.rises, "a rise that lists a zone"),
-            (self.falls, "a fall that lists a zone"),
-        ];
-        for (count, what) in accepted {
-            if count == 0 {
-                missing.push(format!("accepted with {what}"));
-            }
-        }
-        missing
-    }
-}
-
-impl fmt::Display for Tally {
-    fn fmt(&self, out: &mut fmt::Formatter) -> fmt::Result {
-        let [accepted, refused @ ..] = &self.returned;
-        let refused: Vec<String> = refused
-            .iter()
-            .enumerate()
-            .map(|(index, count)| format!("refused {}: {count}", index + 1))
-            .collect();
-        write!(
-            out,
-            "{} calls, accepted {accepted} ({} of them with a bound that is not reached, {} with a \
-             half that goes down, {} with a rise and {} with a fall that lists a zone) with {} zones \
-             and {} stars (at most {} rounds, all within n + d), {}; {} stretches compared, {} calls \
-             passed over for time",
-            self.calls,
-            self.not_reached,
-            self.halves_down,
-            self.rises,
-            self.falls,
-            self.zones,
-            self.stars,
-            self.most_rounds,
-            refused.join(", "),
-            self.stretches,
-            self.passed_over,
-        )
-    }
+fn lengths(lent: &Lent) -> String {
+    let (answer, work) = (lent.answer().len(), lent.work().len());
+    format!("answer {answer} words, work {work} words\n")
 }
 
 #[cfg(test)]
@@ -427,37 +397,6 @@ mod tests {
             let up = (ms + 5) / 10;
             assert_eq!(is_half_down(ms), tick(ms) != up, "{ms}");
         }
-    }
-
-    #[test]
-    fn a_campaign_without_a_half_that_goes_down_misses_it() {
-        let mut tally = Tally {
-            returned: [1; Refusal::LAST + 1],
-            not_reached: 1,
-            rises: 1,
-            falls: 1,
-            ..Tally::default()
-        };
-        assert_eq!(tally.missing(), ["accepted with a half that goes down"]);
-        tally.halves_down = 1;
-        assert!(tally.missing().is_empty());
-    }
-
-    #[test]
-    fn a_campaign_without_a_rise_or_a_fall_misses_it() {
-        let mut tally = Tally {
-            returned: [1; Refusal::LAST + 1],
-            not_reached: 1,
-            halves_down: 1,
-            ..Tally::default()
-        };
-        let rise = "accepted with a rise that lists a zone";
-        let fall = "accepted with a fall that lists a zone";
-        assert_eq!(tally.missing(), [rise, fall]);
-        tally.rises = 1;
-        assert_eq!(tally.missing(), [fall]);
-        tally.falls = 1;
-        assert!(tally.missing().is_empty());
     }
 
     /// On R, `a` rises once and falls once; where it is high from the start on, it only falls.

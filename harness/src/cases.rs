@@ -8,12 +8,11 @@
 //! recording and the drill. Before the call, word i of either buffer is i.
 
 use crate::brute;
-use crate::drill::Drill;
 use crate::examples::{pulses, recording, recording_r};
-use crate::finder::{find, front, Returned, WORK_WORDS};
-use crate::recording::{Recording, MAX_LENGTH, RECORD};
+use crate::finder::{find, front, listed, Returned, WORK_WORDS};
+use crate::recording::{MAX_LENGTH, RECORD};
 use crate::sheet;
-use crate::zone::{Zone, WORDS};
+use crate::zone::WORDS;
 
 pub struct Case {
     recording: Vec<u8>,
@@ -98,12 +97,6 @@ struct Called {
 }
 
 impl Called {
-    fn zones(&self) -> Vec<Zone> {
-        let words = self.answer.as_chunks::<WORDS>().0;
-        let listed = words.iter().take(self.returned.zones as usize);
-        listed.map(|&words| Zone::from_words(words)).collect()
-    }
-
     fn answer_line(&self) -> Result<String, String> {
         let front = self.returned.zones as usize * WORDS;
         if self.answer == self.answer_before {
@@ -159,9 +152,9 @@ pub fn output(cases: &[Case]) -> Result<String, String> {
 
 fn lines(case: &Case) -> Result<String, String> {
     let called = case.call();
-    let zones = called.zones();
+    let zones = listed(called.returned, &called.answer);
     if called.returned.is_accepted() {
-        try_fractions(case, &zones)?;
+        brute::compare_accepted(&case.recording, &case.drill, &zones, MAX_BRUTE_TICKS)?;
     }
     let Returned {
         number,
@@ -175,16 +168,6 @@ fn lines(case: &Case) -> Result<String, String> {
         case.front_words(),
         sheet::text(called.returned, &called.answer),
     ))
-}
-
-fn try_fractions(case: &Case, zones: &[Zone]) -> Result<(), String> {
-    let recording = Recording::read(&case.recording).map_err(|_| "accepted a wrong recording")?;
-    let drill = Drill::read(&case.drill, recording.channels());
-    let drill = drill.map_err(|_| "accepted a wrong drill")?;
-    if recording.ticks() <= MAX_BRUTE_TICKS {
-        brute::compare(&drill, &recording, zones)?;
-    }
-    Ok(())
 }
 
 /// Every case, in the order of the output.

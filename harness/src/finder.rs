@@ -3,8 +3,8 @@
 use crate::drill::Drill;
 use crate::recording::Recording;
 use crate::refusal::Refusal;
-use crate::zone::WORDS;
-use crate::zones::{List, Matcher, Star, Stop};
+use crate::zone::{Zone, WORDS};
+use crate::zones::{Allowed, List, Matcher, Star, Stop};
 
 /// Words that the work buffer must have, and that are zero once a list was begun.
 pub const WORK_WORDS: usize = 16_384;
@@ -40,22 +40,57 @@ pub struct Found {
     pub stars: Vec<Star>,
 }
 
-/// Finds all stretches of the recording that fit the drill.
+/// Finds all stretches of the recording that fit the drill, however many rounds that takes.
 pub fn find(recording: &[u8], drill: &[u8], answer: &mut [i32], work: &mut [i32]) -> Returned {
-    let found = find_within(recording, drill, answer, work, u64::MAX);
-    found.expect("nothing is over this budget").returned
+    let mut allowed = Allowed::ALL;
+    let found = call(recording, drill, answer, work, &mut allowed);
+    found.expect("no drill takes as many pairs").returned
 }
 
 /// The same call, given up with nothing written where the rounds would compose more pairs of
-/// zones than `budget`.
-pub fn find_within(
+/// zones than `pairs`.
+pub fn find_if_quick(
     recording: &[u8],
     drill: &[u8],
     answer: &mut [i32],
     work: &mut [i32],
-    budget: u64,
+    pairs: u64,
 ) -> Option<Found> {
-    match evaluate(recording, drill, answer.len(), work.len(), budget) {
+    let mut allowed = Allowed {
+        pairs,
+        ..Allowed::ALL
+    };
+    call(recording, drill, answer, work, &mut allowed)
+}
+
+/// The call of a drill that is told the rounds left before it, and gives back those left after it:
+/// it is refused by 13 where it would begin a round beyond them.
+pub fn find_with_rounds(
+    recording: &[u8],
+    drill: &[u8],
+    left: u64,
+    answer: &mut [i32],
+    work: &mut [i32],
+) -> (Returned, u64) {
+    let mut allowed = Allowed {
+        rounds: left,
+        ..Allowed::ALL
+    };
+    let found = call(recording, drill, answer, work, &mut allowed);
+    let returned = found.expect("no drill takes as many pairs").returned;
+    (returned, allowed.rounds)
+}
+
+/// Any of these calls: what it came to, with what is left of `allowed`, or nothing where it is too
+/// slow.
+fn call(
+    recording: &[u8],
+    drill: &[u8],
+    answer: &mut [i32],
+    work: &mut [i32],
+    allowed: &mut Allowed,
+) -> Option<Found> {
+    match evaluate(recording, drill, answer.len(), work.len(), allowed) {
         Ok((list, stars)) => {
             clear(work);
             write(&list, answer);
@@ -67,7 +102,7 @@ pub fn find_within(
             Some(Found { returned, stars })
         }
         Err(Stop::Refused(refusal)) => {
-            if refusal >= Refusal::ListFull {
+            if refusal.clears_work() {
                 clear(work);
             }
             Some(Found {
@@ -75,7 +110,7 @@ pub fn find_within(
                 stars: Vec::new(),
             })
         }
-        Err(Stop::OverBudget) => None,
+        Err(Stop::TooSlow) => None,
     }
 }
 
@@ -88,22 +123,32 @@ pub fn front(answer_words: usize, zones: usize) -> usize {
     }
 }
 
-/// All that recording, drill and the lengths of the buffers decide, checked in the order of the
-/// refusals' numbers.
+/// The zones in the filled front of an answer buffer.
+pub fn listed(returned: Returned, answer: &[i32]) -> Vec<Zone> {
+    let words = answer.as_chunks::<WORDS>().0;
+    let zones = words.iter().take(returned.zones as usize);
+    zones.map(|&words| Zone::from_words(words)).collect()
+}
+
+/// All that recording, drill, the lengths of the buffers and what is allowed decide: 1 to 9 in the
+/// order of their numbers, then 10 or 13, whichever the lists come to first, and last 11. The rounds
+/// of a drill are spent whatever comes of it.
 fn evaluate(
     recording: &[u8],
     drill: &[u8],
     answer_words: usize,
     work_words: usize,
-    budget: u64,
+    allowed: &mut Allowed,
 ) -> Result<(List, Vec<Star>), Stop> {
     let recording = Recording::read(recording).map_err(|fault| fault.refusal)?;
     let drill = Drill::read(drill, recording.channels())?;
     if work_words < WORK_WORDS {
         return Err(Refusal::WorkShort.into());
     }
-    let mut matcher = Matcher::new(&recording, budget);
-    let list = matcher.list(&drill)?;
+    let mut matcher = Matcher::new(&recording, *allowed);
+    let list = matcher.list(&drill);
+    *allowed = matcher.left();
+    let list = list?;
     if answer_words < WORDS * list.zones().len() {
         return Err(Refusal::AnswerShort.into());
     }
@@ -582,6 +627,37 @@ mod tests {
         let filled = vec![14, -3, 15, -4, 11, 0, 7, 7];
         assert_eq!(call("a", 8, WORK_WORDS + 2), (0, filled, cleared.clone()));
         assert_eq!(call("a&!a", 0, WORK_WORDS + 2), (0, vec![], cleared));
+    }
+
+    /// `(a{2,2})*` takes 2 rounds on R and lists three zones, the last of them the diagonal.
+    #[test]
+    fn a_drill_that_is_stopped_leaves_what_10_leaves() {
+        let call = |left: u64, answer_words: usize| {
+            let mut answer = vec![7; answer_words];
+            let mut work = vec![9; WORK_WORDS + 2];
+            let (recording, drill) = (recording_r(), b"(a{2,2})*");
+            let (returned, left) =
+                find_with_rounds(&recording, drill, left, &mut answer, &mut work);
+            let Returned {
+                number,
+                zones,
+                rounds,
+            } = returned;
+            ([number.into(), zones, rounds, left], answer, work)
+        };
+        let cleared = [vec![0; WORK_WORDS], vec![9; 2]].concat();
+        let kept = vec![7; 20];
+        for left in [0, 1] {
+            let stopped = ([13, 0, 0, 0], kept.clone(), cleared.clone());
+            assert_eq!(call(left, 20), stopped);
+        }
+        // Too short an answer buffer is found out after all rounds, so these are spent.
+        assert_eq!(call(1, 17), ([13, 0, 0, 0], vec![7; 17], cleared.clone()));
+        assert_eq!(call(2, 17), ([11, 0, 0, 0], vec![7; 17], cleared.clone()));
+        assert_eq!(call(9, 17), ([11, 0, 0, 7], vec![7; 17], cleared.clone()));
+        let (numbers, answer, work) = call(2, 20);
+        assert_eq!((numbers, work), ([0, 3, 2, 0], cleared));
+        assert_eq!(answer[12..], [21, 1, 21, 1, 1, 1, 7, 7]);
     }
 
     #[test]

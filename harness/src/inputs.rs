@@ -11,6 +11,20 @@ pub struct Input {
     pub drill: Vec<u8>,
 }
 
+/// A recording and the text of a sheet for it.
+#[derive(Clone, Debug)]
+pub struct SheetInput {
+    pub recording: Vec<u8>,
+    pub text: Vec<u8>,
+}
+
+/// A recording and several drills for it.
+#[derive(Clone, Debug)]
+pub struct ChainInput {
+    pub recording: Vec<u8>,
+    pub drills: Vec<Vec<u8>>,
+}
+
 /// An input of any kind, now and then damaged.
 pub fn any(rng: &mut Rng) -> Input {
     let mut input = match rng.below(16) {
@@ -29,26 +43,134 @@ pub fn any(rng: &mut Rng) -> Input {
         damage_recording(rng, &mut input.recording);
     }
     if rng.once_in(6) {
-        let alphabet = b"_abcp!+-()|&.*{},<0123456789q \n\xFF";
-        damage(rng, &mut input.drill, alphabet);
+        damage(rng, &mut input.drill, DRILL_BYTES);
     }
     input
+}
+
+/// Bytes that a damaged drill may have anywhere.
+const DRILL_BYTES: &[u8] = b"_abcp!+-()|&.*{},<0123456789q \n\xFF";
+
+/// A sheet of any form: no line to ten of them, now and then an empty one, a carriage return or no
+/// last newline, and lines of all lengths.
+pub fn sheet(rng: &mut Rng) -> SheetInput {
+    let (mut recording, channels) = any_drive(rng);
+    let lines = match rng.below(20) {
+        0 => 0,
+        1 => 9,
+        2 => 10,
+        3..6 => 8,
+        _ => rng.between(1, 7),
+    };
+    let mut text = Vec::new();
+    for _ in 0..lines {
+        text.extend(any_line(rng, channels));
+    }
+    if rng.once_in(20) {
+        text.pop();
+    }
+    if rng.once_in(16) {
+        damage(rng, &mut text, b"\n\n\ra*");
+    }
+    match rng.below(16) {
+        0 => recording.truncate(rng.below(RECORD as u64) as usize),
+        1 => recording[rng.below(RECORD as u64) as usize] ^= 0xFF,
+        2 => recording.extend(rng.bytes(RECORD)),
+        3 => damage_recording(rng, &mut recording),
+        _ => (),
+    }
+    SheetInput { recording, text }
+}
+
+/// A drill and the newline behind it.
+fn any_line(rng: &mut Rng, channels: u8) -> Vec<u8> {
+    let mut line = match rng.below(60) {
+        0 => Vec::new(),
+        1 => vec![b'('; rng.between(256, 5_000) as usize],
+        _ => any_drill(rng, channels),
+    };
+    if rng.once_in(30) {
+        line.push(b'\r');
+    }
+    line.push(b'\n');
+    line
+}
+
+/// Several drills over one recording, most of them with rounds to be spent.
+pub fn chain(rng: &mut Rng) -> ChainInput {
+    let (recording, channels) = any_drive(rng);
+    let mut drill = || {
+        if rng.once_in(2) {
+            star_of_pieces(rng, channels)
+        } else {
+            any_drill(rng, channels)
+        }
+    };
+    ChainInput {
+        recording,
+        drills: (0..6).map(|_| drill()).collect(),
+    }
+}
+
+/// A sound recording and its number of channels: mostly one for brute force, now and then one with
+/// about as many runs as a list holds, or a long one.
+fn any_drive(rng: &mut Rng) -> (Vec<u8>, u8) {
+    match rng.below(10) {
+        0 => {
+            let runs = rng.between(60, 138);
+            (many_runs(rng, runs), 1)
+        }
+        1 => {
+            let head = Head {
+                duration: random::milliseconds(rng, 1_000, 20_000),
+                channels: rng.between(1, 4) as u8,
+            };
+            (switching(rng, head, 40), head.channels)
+        }
+        _ => {
+            let head = small_head(rng);
+            let changes = rng.below(14) as usize;
+            (random::recording(rng, head, changes), head.channels)
+        }
+    }
+}
+
+/// A drill of any kind for a recording with so many channels, now and then damaged.
+fn any_drill(rng: &mut Rng, channels: u8) -> Vec<u8> {
+    let mut drill = match rng.below(16) {
+        0 => deep_drill(rng, channels),
+        1 => outside_drill(rng, channels),
+        2 => once_or_twice_a_run(rng).0.into(),
+        3..7 => star_of_pieces(rng, channels),
+        _ => small_drill(rng, channels),
+    };
+    if rng.once_in(20) {
+        lengthen(rng, &mut drill);
+    }
+    if rng.once_in(12) {
+        damage(rng, &mut drill, DRILL_BYTES);
+    }
+    drill
 }
 
 /// Up to 12 ticks and three channels: brute force has an opinion on these.
 fn small(rng: &mut Rng) -> Input {
     let head = small_head(rng);
     let changes = rng.below(10) as usize;
+    Input {
+        recording: random::recording(rng, head, changes),
+        drill: small_drill(rng, head.channels),
+    }
+}
+
+fn small_drill(rng: &mut Rng, channels: u8) -> Vec<u8> {
     let taste = Taste {
         leaves: 6,
-        channels: head.channels,
+        channels,
         limit: 12,
         stars: true,
     };
-    Input {
-        recording: random::recording(rng, head, changes),
-        drill: random_text(rng, taste),
-    }
+    random_text(rng, taste)
 }
 
 fn small_head(rng: &mut Rng) -> Head {
@@ -63,16 +185,25 @@ fn random_text(rng: &mut Rng, taste: Taste) -> Vec<u8> {
     random::text(rng, &drill)
 }
 
-/// The star of a few short pieces that overlap, each in a place of its own: which of them come
-/// first, and on which side they are added, shows in the order of the list.
+/// A drive with many changes for the star of a few short pieces.
 fn pieces(rng: &mut Rng) -> Input {
     let head = Head {
         channels: 3,
         ..small_head(rng)
     };
+    let drill = star_of_pieces(rng, head.channels);
+    Input {
+        recording: random::recording(rng, head, 14),
+        drill,
+    }
+}
+
+/// The star of a few short pieces that overlap, each in a place of its own: which of them come
+/// first, and on which side they are added, shows in the order of the list.
+fn star_of_pieces(rng: &mut Rng, channels: u8) -> Vec<u8> {
     let taste = Taste {
         leaves: 2,
-        channels: head.channels,
+        channels,
         limit: 4,
         stars: false,
     };
@@ -85,10 +216,7 @@ fn pieces(rng: &mut Rng) -> Input {
     let hi = rng.between(lo.max(1), 2);
     let band = random::bounded(rng, lo, Some(hi));
     let star = Drill::Star(Box::new(Drill::Within(Box::new(piece), band)));
-    Input {
-        recording: random::recording(rng, head, 14),
-        drill: random::text(rng, &star),
-    }
+    random::text(rng, &star)
 }
 
 /// Brackets around the drill until it is about as long as it may be.
@@ -135,12 +263,21 @@ fn switching(rng: &mut Rng, head: Head, changes: usize) -> Vec<u8> {
     encode(head, &changes)
 }
 
-/// About as deep as a drill may be.
+/// A short drive for a deep drill.
 fn deep(rng: &mut Rng) -> Input {
     let head = small_head(rng);
+    let drill = deep_drill(rng, head.channels);
+    Input {
+        recording: random::recording(rng, head, 6),
+        drill,
+    }
+}
+
+/// About as deep as a drill may be.
+fn deep_drill(rng: &mut Rng, channels: u8) -> Vec<u8> {
     let taste = Taste {
         leaves: 1,
-        channels: head.channels,
+        channels,
         limit: 12,
         stars: true,
     };
@@ -156,19 +293,25 @@ fn deep(rng: &mut Rng) -> Input {
             }
         };
     }
+    random::text(rng, &drill)
+}
+
+/// A short drive for a drill that is likely to be wrong.
+fn outside(rng: &mut Rng) -> Input {
+    let head = small_head(rng);
+    let drill = outside_drill(rng, head.channels);
     Input {
         recording: random::recording(rng, head, 6),
-        drill: random::text(rng, &drill),
+        drill,
     }
 }
 
 /// Letters, events and bands that are likely to be wrong, numbers of any length, bounds reached or
 /// not.
-fn outside(rng: &mut Rng) -> Input {
-    let head = small_head(rng);
+fn outside_drill(rng: &mut Rng, channels: u8) -> Vec<u8> {
     let taste = Taste {
         leaves: 3,
-        channels: if rng.once_in(2) { 16 } else { head.channels },
+        channels: if rng.once_in(2) { 16 } else { channels },
         limit: 12,
         stars: true,
     };
@@ -196,10 +339,7 @@ fn outside(rng: &mut Rng) -> Input {
             Drill::Within(Box::new(drill), band).to_string()
         }
     };
-    Input {
-        recording: random::recording(rng, head, 6),
-        drill: text.into_bytes(),
-    }
+    text.into_bytes()
 }
 
 /// What stands before a bound: a `<`, or nothing.
@@ -265,6 +405,20 @@ fn digits(rng: &mut Rng) -> String {
 
 /// About as many runs, or runs and events, as a list has room for.
 fn crowded(rng: &mut Rng) -> Input {
+    let (drill, zones_a_run) = once_or_twice_a_run(rng);
+    // A few runs are lost where both their changes are on one tick.
+    let runs = match zones_a_run {
+        1 => rng.between(126, 138),
+        _ => rng.between(64, 70),
+    };
+    Input {
+        recording: many_runs(rng, runs),
+        drill: drill.into(),
+    }
+}
+
+/// A drill with a zone or two for each run of `a`, and how many of these it is.
+fn once_or_twice_a_run(rng: &mut Rng) -> (&'static str, u32) {
     let once_a_run = [
         "a",
         "!a",
@@ -309,12 +463,15 @@ fn crowded(rng: &mut Rng) -> Input {
         "(+a.a)|a.-a",
         "(+a|-a)&_",
     ];
-    // A few runs are lost where both their changes are on one tick.
-    let (drill, runs) = if rng.once_in(4) {
-        (rng.pick(&twice_a_run), rng.between(64, 70))
+    if rng.once_in(4) {
+        (*rng.pick(&twice_a_run), 2)
     } else {
-        (rng.pick(&once_a_run), rng.between(126, 138))
-    };
+        (*rng.pick(&once_a_run), 1)
+    }
+}
+
+/// One channel with this many runs.
+fn many_runs(rng: &mut Rng, runs: u32) -> Vec<u8> {
     let mut time = rng.between(0, 30);
     let mut changes = Vec::new();
     for k in 0..2 * runs {
@@ -326,10 +483,7 @@ fn crowded(rng: &mut Rng) -> Input {
         duration: time + 1,
         channels: 1,
     };
-    Input {
-        recording: encode(head, &changes),
-        drill: drill.as_bytes().to_vec(),
-    }
+    encode(head, &changes)
 }
 
 /// Bytes that nobody meant as anything.
@@ -402,7 +556,8 @@ fn damage(rng: &mut Rng, bytes: &mut Vec<u8>, alphabet: &[u8]) {
 mod tests {
     use super::*;
     use crate::finder::{find, WORK_WORDS};
-    use crate::recording::times;
+    use crate::lesson::drills;
+    use crate::recording::{times, Recording};
     use crate::refusal::Refusal;
 
     /// Halves are among durations and among changes, the lower tick even (5) or odd (15).
@@ -461,6 +616,53 @@ mod tests {
         }
         assert!(fitting > 10, "{fitting}");
         assert!(refused > 10, "{refused}");
+    }
+
+    /// Sheets are of the right form often enough, and of each wrong one.
+    #[test]
+    fn sheets_come_up_right_and_wrong() {
+        let mut rng = Rng::new(1, 8);
+        let sheets: Vec<SheetInput> = (0..2_000).map(|_| sheet(&mut rng)).collect();
+        let lines = |sheet: &SheetInput| -> Vec<Vec<u8>> {
+            let lines = sheet.text.split_inclusive(|&byte| byte == b'\n');
+            lines.map(<[u8]>::to_vec).collect()
+        };
+        let often = |least: usize, what: &str, meets: &dyn Fn(&SheetInput) -> bool| {
+            let count = sheets.iter().filter(|sheet| meets(sheet)).count();
+            assert!(count >= least, "{what}: {count}");
+        };
+        let refused = |sheet: &SheetInput| Recording::read(&sheet.recording).err();
+        often(1_000, "right", &|sheet| {
+            drills(&sheet.text).is_some() && refused(sheet).is_none()
+        });
+        often(50, "no line", &|sheet| sheet.text.is_empty());
+        often(50, "eight lines", &|sheet| lines(sheet).len() == 8);
+        often(100, "too many lines", &|sheet| lines(sheet).len() > 8);
+        often(50, "an empty line", &|sheet| {
+            lines(sheet).contains(&b"\n".to_vec())
+        });
+        often(50, "no last newline", &|sheet| {
+            sheet.text.last().is_some_and(|&last| last != b'\n')
+        });
+        often(50, "a carriage return", &|sheet| {
+            sheet.text.contains(&b'\r')
+        });
+        for length in [254, 255, 256, 257, 258] {
+            let what = format!("a line of {length} bytes");
+            often(10, &what, &|sheet| {
+                lines(sheet).iter().any(|line| line.len() == length + 1)
+            });
+        }
+        often(50, "a long line", &|sheet| {
+            lines(sheet).iter().any(|line| line.len() > 1_000)
+        });
+        let causes = [Refusal::RecordingLength, Refusal::Head, Refusal::Change];
+        for cause in causes {
+            let what = cause.to_string();
+            often(50, &what, &|sheet| {
+                refused(sheet).is_some_and(|fault| fault.refusal == cause)
+            });
+        }
     }
 
     /// Drills with a `<` are accepted and refused often enough, by 5 and by 7.

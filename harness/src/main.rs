@@ -7,7 +7,7 @@ use std::process::ExitCode;
 use std::time::Duration;
 
 use harness::campaign::Campaign;
-use harness::{bench, cases, marks, recording::Recording, text};
+use harness::{bench, cases, marks, named_sheets, recording::Recording, text};
 
 const USAGE: &str = "\
 usage:
@@ -20,13 +20,17 @@ usage:
       one of them again
   harness bench
       time the finders on the same inputs
+  harness purse
+      time the rounds of a sheet, over short lists and long ones
   harness cases [--write-input PATH] [--write-output PATH]
       the executed cases: their input, and the output that is expected of them (printed where no
       path is given)
   harness marks PROGRAM
       run the program `marks` on files at the edges of what it accepts
+  harness lesson PROGRAM
+      run the program `lesson` on named sheets of drills, whose numbers and rounds are known
 
-Built with --features proved, campaign and bench also call the proved library.
+Built with --features proved, campaign, bench, purse and lesson also call the proved library.
 ";
 
 fn main() -> ExitCode {
@@ -51,11 +55,15 @@ enum Command<'a> {
     },
     Campaign(Campaign),
     Bench,
+    Purse,
     Cases {
         input: Option<&'a str>,
         output: Option<&'a str>,
     },
     Marks {
+        program: &'a str,
+    },
+    Lesson {
         program: &'a str,
     },
     Help,
@@ -73,8 +81,10 @@ fn command<'a>(words: &[&'a str]) -> Result<Command<'a>, String> {
         "show" => exactly(["RECORDING"], rest).map(|[from]| Command::Show { from }),
         "campaign" => campaign_options(rest),
         "bench" => exactly([], rest).map(|[]| Command::Bench),
+        "purse" => exactly([], rest).map(|[]| Command::Purse),
         "cases" => cases_options(rest),
         "marks" => exactly(["PROGRAM"], rest).map(|[program]| Command::Marks { program }),
+        "lesson" => exactly(["PROGRAM"], rest).map(|[program]| Command::Lesson { program }),
         "help" | "--help" | "-h" => return Ok(Command::Help),
         _ => return Err(format!("`{name}` is no command\n{USAGE}")),
     };
@@ -147,8 +157,10 @@ fn run(command: Command) -> Result<(), String> {
         Command::Show { from } => show(from)?,
         Command::Campaign(campaign) => println!("{}", campaign.run()?),
         Command::Bench => bench::run()?,
+        Command::Purse => bench::purse()?,
         Command::Cases { input, output } => write_cases(input, output)?,
         Command::Marks { program } => println!("{}", marks::run(program)?),
+        Command::Lesson { program } => println!("{}", named_sheets::run(program)?),
         Command::Help => print!("{USAGE}"),
     }
     Ok(())
@@ -214,6 +226,8 @@ mod tests {
         assert_eq!(complaint(&["record", "drive.txt"]), one);
         let show = "show: missing RECORDING\nusage: harness show RECORDING";
         assert_eq!(complaint(&["show"]), show);
+        let lesson = "lesson: missing PROGRAM\nusage: harness lesson PROGRAM";
+        assert_eq!(complaint(&["lesson"]), lesson);
     }
 
     #[test]

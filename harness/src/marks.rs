@@ -4,14 +4,9 @@
 //! the drill is dropped, and a file that is missing counts as empty. Every file that is too long has
 //! a front that would be accepted, so that a program that reads less of it gives itself away.
 
-use std::fs;
-use std::path::{Path, PathBuf};
-use std::process::{Command, Stdio};
-use std::time::{SystemTime, UNIX_EPOCH};
-
-use crate::drill::MAX_LENGTH as MAX_DRILL;
-use crate::examples::{recording, recording_r};
+use crate::examples::{bracketed, one_change_too_many, recording, recording_r};
 use crate::finder::{find, WORK_WORDS};
+use crate::program::Program;
 use crate::recording::{MAX_LENGTH, RECORD};
 use crate::sheet;
 use crate::zone::WORDS;
@@ -63,66 +58,18 @@ impl Case {
         Ok(sheet::text(returned, &answer))
     }
 
-    fn check(&self, program: &Path) -> Result<(), String> {
-        let expected = self.sheet()?;
-        let folder = Folder::new()?;
-        folder.write("drive.rec", self.recording.as_deref())?;
-        folder.write("drill.txt", self.drill.as_deref())?;
-        let printed = folder.run(program)?;
-        if printed != expected.as_bytes() {
-            let printed = String::from_utf8_lossy(&printed);
-            return Err(format!("expected\n{expected}but found\n{printed}"));
-        }
-        Ok(())
-    }
-}
-
-/// A folder of its own for each run, which goes away with it.
-struct Folder(PathBuf);
-
-impl Folder {
-    fn new() -> Result<Folder, String> {
-        let (process, now) = (std::process::id(), SystemTime::now());
-        let since = now
-            .duration_since(UNIX_EPOCH)
-            .map_or(0, |time| time.as_nanos());
-        let path = std::env::temp_dir().join(format!("marks-{process}-{since}"));
-        fs::create_dir(&path).map_err(|error| format!("{}: {error}", path.display()))?;
-        Ok(Folder(path))
-    }
-
-    fn write(&self, name: &str, bytes: Option<&[u8]>) -> Result<(), String> {
-        let Some(bytes) = bytes else {
-            return Ok(());
-        };
-        fs::write(self.0.join(name), bytes).map_err(|error| format!("{name}: {error}"))
-    }
-
-    /// What the program prints when it is started here.
-    fn run(&self, program: &Path) -> Result<Vec<u8>, String> {
-        let mut command = Command::new(program);
-        let command = command.current_dir(&self.0).stdin(Stdio::null());
-        let output = command
-            .output()
-            .map_err(|error| format!("{}: {error}", program.display()))?;
-        if !output.status.success() || !output.stderr.is_empty() {
-            let complaint = String::from_utf8_lossy(&output.stderr);
-            return Err(format!("{}\n{complaint}", output.status));
-        }
-        Ok(output.stdout)
-    }
-}
-
-impl Drop for Folder {
-    fn drop(&mut self) {
-        // A folder that stays behind does no harm.
-        let _ = fs::remove_dir_all(&self.0);
+    fn check(&self, program: &Program) -> Result<(), String> {
+        let files = [
+            ("drive.rec", self.recording.as_deref()),
+            ("drill.txt", self.drill.as_deref()),
+        ];
+        program.must_print(&files, &self.sheet()?)
     }
 }
 
 /// Runs the program on every case.
 pub fn run(program: &str) -> Result<String, String> {
-    let program = fs::canonicalize(program).map_err(|error| format!("{program}: {error}"))?;
+    let program = Program::at(program)?;
     let cases = all();
     for case in &cases {
         case.check(&program)
@@ -151,20 +98,10 @@ fn recordings() -> Vec<Case> {
     ]
 }
 
-/// Right but for its length: the last change that a recording has room for switches a on, and one
-/// more follows.
-fn one_change_too_many() -> Vec<u8> {
-    let last = (MAX_LENGTH / RECORD - 1) as u32;
-    let changes: Vec<(u32, u16)> = (1..=last + 1)
-        .map(|k| (10 * k, (k == last).into()))
-        .collect();
-    recording(50_000, 1, &changes)
-}
-
 /// Drills at the edge of 255 bytes.
 fn drills() -> Vec<Case> {
-    let with = |name, drill: Vec<u8>, behind: &[u8], number| {
-        let drill = [&drill[..], behind].concat();
+    let with = |name, drill: String, behind: &[u8], number| {
+        let drill = [drill.as_bytes(), behind].concat();
         Case::new(name, &recording_r(), &drill, number)
     };
     let longest = || bracketed("a");
@@ -180,13 +117,6 @@ fn drills() -> Vec<Case> {
         with("257 bytes", longest(), b"**", 4),
         with("254 bytes and two newlines", bracketed("_*"), b"\n\n", 5),
     ]
-}
-
-/// A drill in as many brackets as the longest has room for.
-fn bracketed(inner: &str) -> Vec<u8> {
-    let brackets = (MAX_DRILL - inner.len()) / 2;
-    let drill = format!("{}{inner}{}", "(".repeat(brackets), ")".repeat(brackets));
-    drill.into_bytes()
 }
 
 /// One final newline is dropped, and nothing else.
@@ -222,6 +152,7 @@ fn missing() -> Vec<Case> {
 #[cfg(test)]
 mod tests {
     use super::*;
+    use crate::drill::MAX_LENGTH as MAX_DRILL;
 
     #[test]
     fn every_case_has_its_number() {

@@ -110,7 +110,7 @@ pub enum Stop {
     Refused(Refusal),
     /// The rounds would compose more pairs than the caller allowed. Not an outcome of the
     /// finder: for callers that meet drills at random and have no time for the slowest.
-    OverBudget,
+    TooSlow,
 }
 
 impl From<Refusal> for Stop {
@@ -119,21 +119,43 @@ impl From<Refusal> for Stop {
     }
 }
 
+/// How far the rounds of all stars together may still go.
+#[derive(Clone, Copy, Debug, PartialEq, Eq)]
+pub struct Allowed {
+    /// Rounds that may be finished: one more is refused by 13.
+    pub rounds: u64,
+    /// Pairs of zones that the rounds may compose: one more is too slow.
+    pub pairs: u64,
+}
+
+impl Allowed {
+    /// More than the stars of any drill take: there are at most 255 of them, each keeps to n + d
+    /// rounds, and a round to 128 × 128 pairs.
+    pub const ALL: Allowed = Allowed {
+        rounds: u64::MAX,
+        pairs: u64::MAX,
+    };
+}
+
 /// Builds the lists of one recording, and keeps count of the rounds.
 pub struct Matcher<'a> {
     recording: &'a Recording<'a>,
     stars: Vec<Star>,
-    /// Pairs that the rounds may still compose.
-    budget: u64,
+    left: Allowed,
 }
 
 impl<'a> Matcher<'a> {
-    pub fn new(recording: &'a Recording<'a>, budget: u64) -> Matcher<'a> {
+    pub fn new(recording: &'a Recording<'a>, allowed: Allowed) -> Matcher<'a> {
         Matcher {
             recording,
             stars: Vec::new(),
-            budget,
+            left: allowed,
         }
+    }
+
+    /// What is left of the rounds and pairs allowed, whatever came of the lists.
+    pub fn left(&self) -> Allowed {
+        self.left
     }
 
     /// The stars met so far, in the order in which they were finished.
@@ -222,9 +244,11 @@ impl<'a> Matcher<'a> {
         list.copy_from(&inner);
         let mut rounds = 0;
         loop {
+            self.begin_round(&list, &inner)?;
             before.copy_from(&list);
-            self.spend(&before, &inner)?;
             list.put_pairs(&before, &inner, Zone::compose)?;
+            // Only a round that is finished is spent: one that 10 breaks off is not.
+            self.left.rounds -= 1;
             rounds += 1;
             // A round may remove one zone and add another, so only equality of the whole lists,
             // order included, says that it changed nothing.
@@ -240,9 +264,13 @@ impl<'a> Matcher<'a> {
         Ok(list)
     }
 
-    fn spend(&mut self, before: &List, inner: &List) -> Result<(), Stop> {
+    /// A round beyond those left is never begun, whatever it would have come to.
+    fn begin_round(&mut self, before: &List, inner: &List) -> Result<(), Stop> {
+        if self.left.rounds == 0 {
+            return Err(Refusal::RoundsSpent.into());
+        }
         let pairs = (before.zones().len() * inner.zones().len()) as u64;
-        self.budget = self.budget.checked_sub(pairs).ok_or(Stop::OverBudget)?;
+        self.left.pairs = self.left.pairs.checked_sub(pairs).ok_or(Stop::TooSlow)?;
         Ok(())
     }
 }

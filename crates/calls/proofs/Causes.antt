@@ -1,7 +1,7 @@
 -- The first cause of any list of causes: a call has no two outcomes, and its number is exactly that of its first cause. Laws for every call.
 use mathlib.Core.Path.{_≡_, refl, sym, subst, ap, _∙_}
 use mathlib.Core.Logic.{_↔_, _⊎_, inl, inr, ⊎-map, ⊎-elim}
-use mathlib.Core.List.{List, [], _∷_, _++_, List·Memᴰ, List·Memᴰ·head, List·Memᴰ·tail, List·Memᴰ·not-nil as not-nil, Memᴰ·append-right as append-right}
+use mathlib.Core.List.{List, [], _∷_, _++_, List·Memᴰ, List·Memᴰ·head, List·Memᴰ·tail, List·Memᴰ·not-nil as not-nil, List·Memᴰ·cases-cons, Memᴰ·append-right as append-right}
 use Prim.Native.Nat.{ℕ, _<_}
 use native.Mathlib.Omega.{arith}
 use Rattle.calls.specs.Causes.{First, NoCause, CallAs, CallAs.refused, CallAs.accepted}
@@ -37,10 +37,51 @@ module _ {Cause : Outcome → Type 0} where
   none-append none m = m
   none-append (n also ns) m = n also none-append ns m
 
+-- ---- two calls whose causes begin alike
+
+-- of two calls: each of these causes holds of the one where it holds of the other
+pub data Alike (Cause Other : Outcome → Type 0) : List Outcome → Type 0 where
+  nothing : Alike Cause Other []
+  both : {o : Outcome} {os : List Outcome} → (Cause o → Other o) → (Other o → Cause o) → Alike Cause Other os → Alike Cause Other (o ∷ os)
+
+-- where none of these holds of the one, none holds of the other
+pub none-alike : {Cause Other : Outcome → Type 0} {A : List Outcome} → Alike Cause Other A → NoCause A Cause → NoneOf Other A
+none-alike nothing n = none
+none-alike (both {o = o} to back rest) n = (λ h. n o (List·Memᴰ·head refl) (back h)) also none-alike rest (λ p m. n p (List·Memᴰ·tail m))
+
+module _ (Cause Other : Outcome → Type 0) where
+  -- the first cause of the one is among these, and then it is the other's too; or none of these holds of the other, and it is among the rest
+  abbrev pub Split : (A B : List Outcome) → Outcome → Type 0
+  Split A B o = ((C : List Outcome) → First (A ++ C) Other o) ⊎ (NoneOf Other A × First B Cause o)
+
+  pub first-split : {A B : List Outcome} {o : Outcome} → Alike Cause Other A → First (A ++ B) Cause o → Split A B o
+  first-split nothing f = inr (none, f)
+  first-split {B = B} {o = o} (both {o = a} {os = A} to back rest) f = go (first-split rest) (f .earlier) (f .place) (f .none)
+    where
+      go : (First (A ++ B) Cause o → Split A B o) → (us : List Outcome) → (a ∷ (A ++ B)) ≡ us ++ (o ∷ f .later) → ((p : Outcome) → List·Memᴰ p us → ¬ Cause p) → Split (a ∷ A) B o
+      go below [] e n =
+          let q : a ≡ o = cc in
+          let h : Other o = subst Other q (to (subst Cause (sym q) (f .holds))) in
+          inl (λ C. record { earlier = []; later = A ++ C; place = ap (λ (p : Outcome). p ∷ (A ++ C)) q; holds = h; none = λ p m. absurd (not-nil m) })
+      go below (u ∷ us) e n =
+          let q : a ≡ u = cc in
+          let t : A ++ B ≡ us ++ (o ∷ f .later) = cc in
+          let out : ¬ Other a = λ h. n u (List·Memᴰ·head refl) (subst Cause q (back h)) in
+          ⊎-elim
+          (λ g. inl (λ C. let k = g C in record {
+            earlier = a ∷ k .earlier;
+            later = k .later;
+            place = ap (λ (l : List Outcome). a ∷ l) (k .place);
+            holds = k .holds;
+            none = λ p m. ⊎-elim (λ i h. out (subst Other i h)) (λ l. k .none p l) (List·Memᴰ·cases-cons m);
+          }))
+          (λ g. inr (out also g .0, g .1))
+          (below (record { earlier = us; later = f .later; place = t; holds = f .holds; none = λ p m. n p (List·Memᴰ·tail m) }))
+
 module _ {causes : List Outcome} {Cause : Outcome → Type 0} where
   -- ---- one outcome
 
-  not-refused : {o : Outcome} → NoCause causes Cause → ¬ First causes Cause o
+  pub not-refused : {o : Outcome} → NoCause causes Cause → ¬ First causes Cause o
   not-refused {o} n f = n o (subst (List·Memᴰ o) (sym (f .place)) (append-right (f .earlier) (List·Memᴰ·head refl))) (f .holds)
 
   -- There is one first cause.

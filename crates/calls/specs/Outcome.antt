@@ -25,6 +25,8 @@ pub use Rattle.outcome.specs.declared.Outcome.the-variants.{
   WorkShort,
   Overflow,
   AnswerShort,
+  SheetForm,
+  RoundsSpent,
   Finished,
 }
 pub use Rattle.outcome.specs.Outcome.{returned, Left, both, answer-buffer, delivered, leaves, frontOf}
@@ -41,26 +43,33 @@ pub record Comes (bytes text : List ℕ) (v : Value) : Type 0 where
 abbrev pub largest : ℕ
 largest = 32768
 
--- the cause of each refusal, of the bytes of the recording, the text of the drill and the lengths of both buffers
-abbrev pub Cause : (bytes text : List ℕ) (answer work : ℕ) → Outcome → Type 0
+-- the cause of each refusal, of the bytes of the recording, the text of the drill and the lengths of both buffers. Each call says of rounds when
+-- it `overflows`, and when they are `spent`
+abbrev pub CauseOf : (overflows spent : Type 0) (bytes text : List ℕ) (answer work : ℕ) → Outcome → Type 0
 -- "recording of length 0, over 32,768 or not a multiple of 8", "head wrong in any field", "a change wrong in any field"
-Cause bytes text answer work RecordingLength = RecordingCause largest bytes 1
-Cause bytes text answer work RecordingHead = RecordingCause largest bytes 2
-Cause bytes text answer work RecordingChange = RecordingCause largest bytes 3
+CauseOf overflows spent bytes text answer work RecordingLength = RecordingCause largest bytes 1
+CauseOf overflows spent bytes text answer work RecordingHead = RecordingCause largest bytes 2
+CauseOf overflows spent bytes text answer work RecordingChange = RecordingCause largest bytes 3
 -- "drill of length 0 or over 255", "drill not of the form above", "a letter at or beyond the channel count",
 -- "lo or hi above 1,000,000, or lo > hi" and "Equal lo and hi with a `<` on either", "depth above 16"
-Cause bytes text answer work DrillLength = DrillCause text (channels bytes) 4
-Cause bytes text answer work DrillForm = DrillCause text (channels bytes) 5
-Cause bytes text answer work DrillLetter = DrillCause text (channels bytes) 6
-Cause bytes text answer work DrillRange = DrillCause text (channels bytes) 7
-Cause bytes text answer work DrillDepth = DrillCause text (channels bytes) 8
+CauseOf overflows spent bytes text answer work DrillLength = DrillCause text (channels bytes) 4
+CauseOf overflows spent bytes text answer work DrillForm = DrillCause text (channels bytes) 5
+CauseOf overflows spent bytes text answer work DrillLetter = DrillCause text (channels bytes) 6
+CauseOf overflows spent bytes text answer work DrillRange = DrillCause text (channels bytes) 7
+CauseOf overflows spent bytes text answer work DrillDepth = DrillCause text (channels bytes) 8
 -- "work buffer under 16,384 words"
-Cause bytes text answer work WorkShort = work < room
--- "a put would leave a list of 129 zones"
-Cause bytes text answer work Overflow = Comes bytes text overflow
+CauseOf overflows spent bytes text answer work WorkShort = work < room
+CauseOf overflows spent bytes text answer work Overflow = overflows
 -- "answer buffer under 6 words a zone"
-Cause bytes text answer work AnswerShort = NoRoom (Comes bytes text) answer
-Cause bytes text answer work (Finished zones rounds) = ⊥
+CauseOf overflows spent bytes text answer work AnswerShort = NoRoom (Comes bytes text) answer
+-- a sheet's, and no drill's
+CauseOf overflows spent bytes text answer work SheetForm = ⊥
+CauseOf overflows spent bytes text answer work RoundsSpent = spent
+CauseOf overflows spent bytes text answer work (Finished zones rounds) = ⊥
+
+-- those of `find`: "a put would leave a list of 129 zones", after however many rounds; it has no limit on rounds
+abbrev pub Cause : (bytes text : List ℕ) (answer work : ℕ) → Outcome → Type 0
+Cause bytes text answer work = CauseOf ((b : ℕ) × (f : ℕ) × Comes bytes text (overflow b f)) ⊥ bytes text answer work
 
 -- "Checked in the order of the numbers"
 abbrev pub refusals : List Outcome

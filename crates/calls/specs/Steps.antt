@@ -2,9 +2,9 @@
 use Rattle.parser.specs.declared.Parsed.{Parsed}
 use Rattle.parser.specs.declared.Parsed.the-variants.{Root, WrongLength, NoForm, WrongLetter, WrongRange, TooDeep}
 use Rattle.delivery.specs.declared.Worked.{Worked}
-use Rattle.delivery.specs.declared.Worked.the-variants.{WorkShort, Overflow, AnswerShort, Finished}
+use Rattle.delivery.specs.declared.Worked.the-variants.{WorkShort, Overflow, RoundsSpent, AnswerShort, Finished}
 use Rattle.outcome.specs.declared.Outcome.{Outcome}
-use Rattle.outcome.specs.declared.Outcome.the-variants.{DrillLength, DrillForm, DrillLetter, DrillRange, DrillDepth, WorkShort, Overflow, AnswerShort, Finished}
+use Rattle.outcome.specs.declared.Outcome.the-variants.{DrillLength, DrillForm, DrillLetter, DrillRange, DrillDepth, WorkShort, Overflow, RoundsSpent, AnswerShort, Finished}
 use Rattle.calls.specs.declared.Drill.{Drill}
 use Rattle.calls.specs.declared.Drill.the-variants.{Root, Refused}
 
@@ -21,5 +21,6 @@ drillOf TooDeep = Refused DrillDepth
 abbrev pub outcomeOf : Worked → Outcome
 outcomeOf WorkShort = WorkShort
 outcomeOf Overflow = Overflow
+outcomeOf RoundsSpent = RoundsSpent
 outcomeOf AnswerShort = AnswerShort
 outcomeOf (Finished zones rounds) = Finished zones rounds

@@ -1,6 +1,8 @@
 -- One step of the evaluator: what a node says of its expression, and how the values of its operands make its own.
-use mathlib.Core.Path.{_≡_, sym, subst, _∙_}
-use mathlib.Core.List.{List}
+use mathlib.Core.Path.{_≡_, refl, sym, subst, _∙_}
+use mathlib.Core.List.{List, [], _∷_}
+use types.Run.{OneOf}
+use denote.Enum.Declared.{tagOf}
 use mathlib.Core.Logic.{inl}
 use Prim.Native.Nat.{ℕ, _+_, _-_, _*_, _≤_, _<_}
 use native.Mathlib.Omega.{arith}
@@ -18,15 +20,16 @@ use Rattle.expression.specs.Expression.{Expression, join, unary}
 use Rattle.expression.specs.Stored.{nodeAt}
 use Rattle.expression.specs.Planted.{Planted}
 use Rattle.expression.proofs.Laws.{Operands, operands}
-use Rattle.meaning.specs.Lists.{Value, overflow, ended, Then.goes, Then.stops, Both, joinList, applied, Evaluates}
+use Rattle.meaning.specs.Lists.{Value, ended, Then, joinList, applied, Evaluates}
 use Rattle.primaries.specs.Windows.{Looks}
-use Rattle.values.specs.Values.{Standing, EvaluatedAs, most-rounds, OperandAt, Came, Carried}
 use Rattle.primaries.specs.declared.Window.{Window}
-use Rattle.values.specs.declared.Evaluated.{Evaluated}
-use Rattle.values.specs.declared.Evaluated.the-variants.{Listed, Overflow}
-use Rattle.meaning.proofs.Evaluation.{evaluates-well}
-use Rattle.evaluation.proofs.Rounds.{rounds-few}
-use Rattle.values.proofs.Standings.{evaluated-map}
+use Rattle.values.specs.Values.{OperandAt}
+use Rattle.purse.specs.declared.Evaluated.{Evaluated}
+use Rattle.purse.proofs.Evaluated.{the-type}
+use Rattle.purse.specs.Purse.{Standing, EvaluatedAs}
+use Rattle.meaning.proofs.Evaluation.{One, Some, then-some, evaluates-well, evaluates-unique, evaluates-exists}
+use Rattle.evaluation.proofs.Operands.{then-goes, then-stops}
+use Rattle.meaning.proofs.Finite.{recording-finite}
 use Rattle.primaries.proofs.Windows.{looks-ticks}
 
 -- what node i says of its expression, as the code finds the node
@@ -79,69 +82,80 @@ module _ {bytes : List ℕ} {window : Window} (looks : Looks bytes window) where
   abbrev pub Comes : Expression → Value → Type 0
   Comes e v = Evaluates (Shows bytes) (window .from) (window .to) e v
 
-  module _ (f : Expression) {ws : List ℤ} {base n p : ℕ} (s : Standing (Comes f) ws base n p) where
-    -- the zones of its list may be combined
-    pub operand-sound : Sound (listAt ws base n)
+  -- to one value, and to some value
+  one : (e : Expression) → One (Comes e)
+  one e = evaluates-unique (Shows bytes) (window .from) (window .to) e
+
+  some : (e : Expression) → Some (Comes e)
+  some e = evaluates-exists (recording-finite bytes (window .from) (window .to)) (looks .some) e
+
+  module _ (f : Expression) {told : ℕ} {ws : List ℤ} {base n left : ℕ} (s : Standing (Comes f) told ws base n left) where
+    -- the zones of its list may be combined ..
+    operand-sound : Sound (listAt ws base n)
     operand-sound =
         subst Sound (sym (s .holds .zones))
-        (λ z m. proper-within (omega arith) (looks-ticks looks .small) (evaluates-well (Shows bytes) (looks-ticks looks .forward) f p (s .means) .proper z m))
+        (λ z m. proper-within (omega arith) (looks-ticks looks .small) (evaluates-well (Shows bytes) (looks-ticks looks .forward) f (s .rounds) (s .means) .proper z m))
 
-    -- and its rounds are few
-    pub operand-rounds : {ns : List ℕ} {channels i d : ℕ} → Planted ns channels i d f → d ≤ 16 → p ≤ most-rounds
-    operand-rounds t h =
-        rounds-few (Shows bytes) {from = window .from} {to = window .to} (looks .some) f (s .list) p (omega (arith, t .shallow)) (omega (arith, looks-ticks looks .small)) (s .means)
+    -- .. as the operators with one operand ask for it, and those with two for the right one ..
+    pub only-operand : base + 3 * slot-words ≤ length ws → OperandAt ws base n
+    only-operand room = record { few = s .holds .few; room = room; sound = operand-sound }
 
-  -- so a value is as the operators with one operand ask for it, and as those with two ask for the right one
-  module _ (f : Expression) (ws : List ℤ) (base : ℕ) {ns : List ℕ} {channels i d : ℕ} (planted : Planted ns channels i d f) (shallow : d ≤ 16) where
-    pub came-only : base + 3 * slot-words ≤ length ws → (o : Evaluated) → EvaluatedAs (Comes f) ws base o → Came OperandAt ws base o
-    came-only room (Listed n p) s = (record { few = s .holds .few; room = room; sound = operand-sound f s }, operand-rounds f s planted shallow)
-    came-only room Overflow s = tt
+    pub right-operand : base + slot-words ≤ length ws → Source ws base n
+    right-operand room = record { few = s .holds .few; room = room; sound = operand-sound }
 
-    pub came-right : base + slot-words ≤ length ws → (o : Evaluated) → EvaluatedAs (Comes f) ws base o → Came Source ws base o
-    came-right room (Listed n p) s = (record { few = s .holds .few; room = room; sound = operand-sound f s }, operand-rounds f s planted shallow)
-    came-right room Overflow s = tt
+    -- .. and for the left one: it is still there when the right one is finished
+    module _ (vs : List ℤ) {size : ℕ} (k : Kept (base + slot-words) size ws vs) where
+      pub left-there : listAt vs base n ≡ s .list
+      left-there = listAt-kept base n k (inl (omega (arith, s .holds .few))) ∙ s .holds .zones
 
-  -- the left list is still there when the right one is finished
-  module _ (f : Expression) {us : List ℤ} (vs : List ℤ) {base n p size : ℕ} (s : Standing (Comes f) us base n p) (k : Kept (base + slot-words) size us vs) where
-    left-there : listAt vs base n ≡ listAt us base n
-    left-there = listAt-kept base n k (inl (omega (arith, s .holds .few)))
-
-    pub left-operand : base + 3 * slot-words ≤ length us → OperandAt vs base n
-    left-operand room = record { few = s .holds .few; room = roomy k room; sound = subst Sound (sym left-there) (operand-sound f s) }
+      pub left-operand : base + 3 * slot-words ≤ length ws → OperandAt vs base n
+      left-operand room = record { few = s .holds .few; room = roomy k room; sound = subst Sound (sym (left-there ∙ sym (s .holds .zones))) operand-sound }
 
   -- ---- no operand
 
-  pub leaf-done : {e f : Expression} → e ≡ f → (ws : List ℤ) (base : ℕ) (r : Evaluated) → EvaluatedAs (Comes f) ws base r → EvaluatedAs (Comes e) ws base r
-  leaf-done is ws base r a = subst (λ (x : Expression). EvaluatedAs (Comes x) ws base r) (sym is) a
+  pub leaf-done : {e f : Expression} → e ≡ f → (told : ℕ) (ws : List ℤ) (base : ℕ) (r : Evaluated) → EvaluatedAs (Comes f) told ws base r → EvaluatedAs (Comes e) told ws base r
+  leaf-done is told ws base r a = subst (λ (x : Expression). EvaluatedAs (Comes x) told ws base r) (sym is) a
 
   -- ---- an operator with one operand
 
-  module _ {e : Expression} (f : Expression) (op : Unary) (is : e ≡ unary op f) where
-    one-comes : (us : List ℤ) (base : ℕ) (o : Evaluated) → EvaluatedAs (Comes f) us base o → (v : Value) → Carried (applied (window .from) (window .to) op) us base o v → Comes e v
-    one-comes us base (Listed n p) s v h = subst (λ (x : Expression). Comes x v) (sym is) (goes (s .means) (subst (λ (A : List Zone). applied (window .from) (window .to) op A p v) (s .holds .zones) h))
-    one-comes us base Overflow s v h = subst (Comes e) (sym h) (subst (λ (x : Expression). Comes x overflow) (sym is) (stops s))
+  module _ {e : Expression} (f : Expression) (op : Unary) (is : e ≡ unary op f) (told : ℕ) (ws : List ℤ) (base : ℕ) (r : Evaluated) where
+    whole-one : EvaluatedAs (Comes (unary op f)) told ws base r → EvaluatedAs (Comes e) told ws base r
+    whole-one = subst (λ (x : Expression). EvaluatedAs (Comes x) told ws base r) (sym is)
 
-    pub one-done : (us ws : List ℤ) (base : ℕ) (o r : Evaluated) → EvaluatedAs (Comes f) us base o → EvaluatedAs (Carried (applied (window .from) (window .to) op) us base o) ws base r
-        → EvaluatedAs (Comes e) ws base r
-    one-done us ws base o r s a = evaluated-map _ _ ws base (one-comes us base o s) r a
+    -- without a list
+    pub one-stops : (us : List ℤ) (at : ℕ) → OneOf (1 ∷ 2 ∷ []) (tagOf the-type r) → EvaluatedAs (Comes f) told us at r → EvaluatedAs (Comes e) told ws base r
+    one-stops us at k a = whole-one (then-stops (Comes f) (applied (window .from) (window .to) op) told (one f) (some (unary op f)) us ws at base r k a)
+
+    -- with one
+    pub one-done : {us : List ℤ} {at n left : ℕ} → Standing (Comes f) told us at n left → EvaluatedAs (applied (window .from) (window .to) op (listAt us at n)) left ws base r → EvaluatedAs (Comes e) told ws base r
+    one-done {left = left} s a = whole-one (then-goes (Comes f) (applied (window .from) (window .to) op) told (s .list) (s .rounds) left (s .means) (s .spends) ws base r (subst (λ (A : List Zone). EvaluatedAs (applied (window .from) (window .to) op A) left ws base r) (s .holds .zones) a))
 
   -- ---- an operator with two operands
 
-  module _ {e : Expression} (f g : Expression) (op : Join) (is : e ≡ join op f g) where
-    two-come : (v : Value) → Both (joinList op) (Comes f) (Comes g) v → Comes e v
-    two-come v t = subst (λ (x : Expression). Comes x v) (sym is) t
+  module _ {e : Expression} (f g : Expression) (op : Join) (is : e ≡ join op f g) (told : ℕ) (ws : List ℤ) (base : ℕ) (r : Evaluated) where
+    whole-two : EvaluatedAs (Comes (join op f g)) told ws base r → EvaluatedAs (Comes e) told ws base r
+    whole-two = subst (λ (x : Expression). EvaluatedAs (Comes x) told ws base r) (sym is)
 
-    pub two-over-left : Comes f overflow → Comes e overflow
-    two-over-left s = two-come overflow (stops s)
+    -- the left one without a list
+    pub left-stops : (us : List ℤ) (at : ℕ) → OneOf (1 ∷ 2 ∷ []) (tagOf the-type r) → EvaluatedAs (Comes f) told us at r → EvaluatedAs (Comes e) told ws base r
+    left-stops us at k a = whole-two (then-stops (Comes f) (λ A. Then (Comes g) (λ B v. v ≡ ended (joinList op A B))) told (one f) (some (join op f g)) us ws at base r k a)
 
-    module _ {us : List ℤ} (vs : List ℤ) {base n p size : ℕ} (s : Standing (Comes f) us base n p) (k : Kept (base + slot-words) size us vs) where
-      abbrev Next : List Zone → ℕ → Value → Type 0
-      Next B q v = v ≡ ended (joinList op (listAt vs base n) B) (p + q)
+    module _ {us : List ℤ} {at n left : ℕ} (s : Standing (Comes f) told us at n left) where
+      -- what comes of the right one, the left list being there
+      abbrev Next : List Zone → Value → Type 0
+      Next B v = v ≡ ended (joinList op (s .list) B)
 
-      two-comes : (o : Evaluated) → EvaluatedAs (Comes g) vs (base + slot-words) o → (v : Value) → Carried Next vs (base + slot-words) o v → Comes e v
-      two-comes (Listed m q) t v h =
-          two-come v (goes (s .means) (goes (t .means) (h ∙ (λ i. ended (joinList op ((left-there f vs s k ∙ s .holds .zones) i) (t .holds .zones i)) (p + q)))))
-      two-comes Overflow t v h = subst (Comes e) (sym h) (two-come overflow (goes (s .means) (stops t)))
+      after-left : EvaluatedAs (Then (Comes g) Next) left ws base r → EvaluatedAs (Comes e) told ws base r
+      after-left a = whole-two (then-goes (Comes f) (λ A. Then (Comes g) (λ B v. v ≡ ended (joinList op A B))) told (s .list) (s .rounds) left (s .means) (s .spends) ws base r a)
 
-      pub two-done : (ws : List ℤ) (o r : Evaluated) → EvaluatedAs (Comes g) vs (base + slot-words) o → EvaluatedAs (Carried Next vs (base + slot-words) o) ws base r → EvaluatedAs (Comes e) ws base r
-      two-done ws o r t a = evaluated-map _ _ ws base (two-comes o t) r a
+      -- the right one without a list
+      pub right-stops : (vs : List ℤ) (next : ℕ) → OneOf (1 ∷ 2 ∷ []) (tagOf the-type r) → EvaluatedAs (Comes g) left vs next r → EvaluatedAs (Comes e) told ws base r
+      right-stops vs next k a = after-left (then-stops (Comes g) Next left (one g) (then-some (some g) (λ B q _. (ended (joinList op (s .list) B), refl))) vs ws next base r k a)
+
+      -- both with one
+      pub two-done : {vs : List ℤ} {next m end : ℕ} → Standing (Comes g) left vs next m end → {A : List Zone} → A ≡ s .list
+          → EvaluatedAs (λ v. v ≡ ended (joinList op A (listAt vs next m))) end ws base r → EvaluatedAs (Comes e) told ws base r
+      two-done {vs} {next} {m} {end} t p a =
+          after-left (then-goes (Comes g) Next left (t .list) (t .rounds) end (t .means) (t .spends) ws base r
+          (subst (λ (B : List Zone). EvaluatedAs (Next B) end ws base r) (t .holds .zones)
+          (subst (λ (A : List Zone). EvaluatedAs (λ v. v ≡ ended (joinList op A (listAt vs next m))) end ws base r) p a)))

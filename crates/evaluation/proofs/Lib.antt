@@ -1,2 +1,3 @@
-pub mod Rounds
+-- Laws on the evaluator.
+pub mod Operands
 pub mod Evaluator

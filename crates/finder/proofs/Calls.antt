@@ -2,7 +2,7 @@
 use mathlib.Core.Path.{_≡_, refl, sym, ap, subst, _∙_}
 use mathlib.Core.Logic.{⊎-elim}
 use mathlib.Core.List.{List, [], _∷_, _++_, List·Memᴰ, List·Memᴰ·head, List·Memᴰ·tail, Memᴰ·append-right as append-right}
-use Prim.Native.Nat.{ℕ, _*_, _≤_, _<_}
+use Prim.Native.Nat.{ℕ, _-_, _*_, _≤_, _<_}
 use native.Mathlib.Decide.{decLe}
 use native.Mathlib.Omega.{arith}
 use lib.IntN.{ℤ}
@@ -20,16 +20,19 @@ use Rattle.expression.specs.Expression.{Expression}
 use Rattle.expression.specs.Refusal.{Accepted, DrillCause, wrong-length, no-form, wrong-letter, wrong-range, too-deep}
 use Rattle.descent.proofs.Complete.{unique}
 use Rattle.parser.proofs.Parses.{answered}
-use Rattle.meaning.specs.Lists.{value, overflow, Value, repeated, RoundsOf, Sum}
+use Rattle.meaning.specs.Lists.{value, overflow, spent, Value, repeated, RoundsOf, Sum}
 use Rattle.calls.specs.Causes.{CallAs.refused, CallAs.accepted}
-use Rattle.calls.specs.Outcome.{Outcome, RecordingHead, DrillLength, DrillForm, DrillLetter, DrillRange, DrillDepth, WorkShort, Overflow, AnswerShort, Finished, Returned, returned, Comes, largest, CallAs, words, fronted, frontOf, Left, both, answer-buffer, delivered, leaves, LeftAs, BuffersAs, FindAs}
+use Rattle.calls.specs.Outcome.{Outcome, RecordingHead, DrillLength, DrillForm, DrillLetter, DrillRange, DrillDepth, WorkShort, Overflow, AnswerShort, Finished, Returned, returned, Comes, largest, CallAs, words, fronted, cleared, frontOf, Left, both, answer-buffer, delivered, leaves, LeftAs, BuffersAs, FindAs}
+use Rattle.calls.specs.Within.{CallWithin, LeftAfter, WithinAs}
 use Rattle.finder.specs.Demands.{Exact, Total, NoInputCause}
 use Rattle.meaning.proofs.Evaluation.{evaluates-well, evaluates-exists}
 use Rattle.meaning.proofs.Members.{members}
 use Rattle.meaning.proofs.Totals.{evaluates-sum, sum-mem, sum-unique, rounds-of-unique, rounds-of-bound, rounds-of-pieces}
 use Rattle.calls.proofs.Causes.{call-unique, number-none}
-use Rattle.calls.proofs.Comes.{recording-finite, comes-unique, finishes-once}
-use Rattle.calls.proofs.Outcomes.{recordings, drills}
+use Rattle.meaning.proofs.Finite.{recording-finite}
+use Rattle.calls.proofs.Comes.{comes-unique, finishes-once}
+use Rattle.calls.proofs.Outcomes.{recordings, drills, call-exists}
+use Rattle.calls.proofs.Finding.{untouched}
 use Rattle.finder.proofs.Answered.{front-words, list-words}
 
 -- ---- zones
@@ -130,7 +133,7 @@ inputs-bounded {bytes} {text} none = ⊎-elim (λ a. given (a .0) (a .1)) (λ r.
 
     total : (v : Value) → Comes bytes text v → (n : ℕ) × Total bytes text n
     total (value L r) c = (r, comes-bounded some c)
-    total overflow c = absurd (none Overflow (append-right (recordings ++ drills) (List·Memᴰ·head refl)) c)
+    total (overflow b f) c = absurd (none Overflow (append-right (recordings ++ drills) (List·Memᴰ·head refl)) (b, f, c))
 
     given : (e : Expression) → Accepted text (channels bytes) e → (n : ℕ) × Total bytes text n
     given e a =
@@ -160,3 +163,52 @@ find-unique {bytes} {text} {answer} {work} {a} {w} {b} {v} {p = p} h k =
     let e = call-unique finishes-once (h .outcome) (k .outcome) in
     let s = left-unique bytes text answer work a w b v (returned p) (leaves p) (subst (λ (q : Outcome). BuffersAs bytes text q answer work a w) e (h .buffers)) (k .buffers) in
     (e, s .0, s .1)
+
+-- ---- the rounds left
+
+-- The rounds left are one number, whichever entry of the column it is.
+rounds-unique : (bytes text : List ℕ) (left l m : ℕ) (k : Left) → LeftAfter (Comes bytes text) left l k → LeftAfter (Comes bytes text) left m k → l ≡ m
+rounds-unique bytes text left l m both p q = p ∙ sym q
+rounds-unique bytes text left l m answer-buffer p q = p .left-is ∙ ap (λ (v : Value). left - spent v) (comes-unique (p .means) (q .means)) ∙ sym (q .left-is)
+rounds-unique bytes text left l m delivered p q = p .left-is ∙ ap (λ (v : Value). left - spent v) (comes-unique (p .means) (q .means)) ∙ sym (q .left-is)
+
+-- A call that is told the rounds left leaves no choice either.
+pub within-unique : {bytes text : List ℕ} {left l m : ℕ} {answer work a w b v : List ℤ} {o p : Outcome} → WithinAs bytes text left answer work o l a w
+    → WithinAs bytes text left answer work p m b v → (o ≡ p) × (l ≡ m) × (a ≡ b) × (w ≡ v)
+within-unique {bytes} {text} {left} {l} {m} {answer} {work} {a} {w} {b} {v} {p = p} h k =
+    let e = call-unique finishes-once (h .outcome) (k .outcome) in
+    let s = left-unique bytes text answer work a w b v (returned p) (leaves p) (subst (λ (q : Outcome). BuffersAs bytes text q answer work a w) e (h .buffers)) (k .buffers) in
+    let r = rounds-unique bytes text left l m (leaves p) (subst (λ (q : Outcome). LeftAfter (Comes bytes text) left l (leaves q)) e (h .rounds)) (k .rounds) in
+    (e, r, s .0, s .1)
+
+-- And there is one: every call that is told the rounds left has an outcome, with the rounds that it leaves and both buffers.
+pub within-exists : (bytes text : List ℕ) (left : ℕ) (answer work : List ℤ)
+    → (o : Outcome) × (left′ : ℕ) × (answer′ : List ℤ) × (work′ : List ℤ) × WithinAs bytes text left answer work o left′ answer′ work′
+within-exists bytes text left answer work =
+    let c = call-exists bytes text left (length answer) (length work) in
+    ⊎-elim (λ e. (c .0, left, answer, work, untouched e (c .1))) (⊎-elim (stopped (c .0) (c .1)) (λ f. finished (f .0) (f .1) (subst (CallWithin bytes text left (length answer) (length work)) (f .2) (c .1)))) (c .3)
+  where
+    stopped : (o : Outcome) → CallWithin bytes text left (length answer) (length work) o → (leaves o ≡ answer-buffer) × (v : Value) × Comes bytes text v
+        → (o : Outcome) × (left′ : ℕ) × (answer′ : List ℤ) × (work′ : List ℤ) × WithinAs bytes text left answer work o left′ answer′ work′
+    stopped o c (e, v, m) = (
+      o,
+      left - spent v,
+      answer,
+      cleared work,
+      record { outcome = c; buffers = rw e (record { answer-kept = refl; work-cleared = refl }); rounds = rw e (record { whole = v; means = m; left-is = refl }) },
+    )
+
+    finished : (zones rounds : ℕ) → CallWithin bytes text left (length answer) (length work) (Finished zones rounds)
+        → (o : Outcome) × (left′ : ℕ) × (answer′ : List ℤ) × (work′ : List ℤ) × WithinAs bytes text left answer work o left′ answer′ work′
+    finished zones rounds (refused f) = absurd (f .holds)
+    finished zones rounds (accepted n f) = (
+      Finished zones rounds,
+      left - rounds,
+      fronted (words (f .list)) answer,
+      cleared work,
+      record {
+        outcome = accepted n f;
+        buffers = record { finishes = f; answer-filled = refl; work-cleared = refl };
+        rounds = record { whole = value (f .list) rounds; means = f .means; left-is = refl };
+      },
+    )

@@ -14,12 +14,9 @@ use Rattle.list.specs.Slots.{listAt}
 use Rattle.recording.specs.Reading.{ticks, wrong-head}
 use Rattle.runs.specs.Levels.{Shows}
 use Rattle.recording.proofs.Rounding.{tick-range}
-use Rattle.expression.specs.Expression.{depth}
-use Rattle.expression.specs.Refusal.{too-deep}
 use Rattle.calls.specs.Outcome.{RecordingHead, DrillLength, DrillForm, DrillLetter, DrillRange, DrillDepth, Finished, NoCause, frontOf, FindAs}
-use Rattle.values.specs.Values.{most-rounds}
 use Rattle.meaning.proofs.Evaluation.{evaluates-well}
-use Rattle.evaluation.proofs.Rounds.{rounds-few}
+use Rattle.calls.proofs.Rounds.{most-rounds, comes-few}
 use Rattle.calls.proofs.Causes.{number-none}
 use Rattle.calls.proofs.Outcomes.{recordings}
 use Rattle.finder.proofs.Answered.{words-length}
@@ -35,12 +32,6 @@ module _ {bytes text : List ℕ} {answer work answer′ work′ : List ℤ} {zon
     | no k ↦ absurd (none RecordingHead (List·Memᴰ·tail (List·Memᴰ·head refl)) (wrong-head (λ d. k (tick-range (d .long) (d .short) .0))))
   ]
 
-  shallow : depth (h .buffers .finishes .means .drill) ≤ 16
-  shallow = elim (decLe (depth (h .buffers .finishes .means .drill)) 16) [
-    | yes k ↦ k
-    | no k ↦ absurd (none DrillDepth (append-right (recordings ++ (DrillLength ∷ DrillForm ∷ DrillLetter ∷ DrillRange ∷ [])) (List·Memᴰ·head refl)) (too-deep (h .buffers .finishes .means .form) (omega arith)))
-  ]
-
   -- At most 128 zones ..
   pub few-zones : zones ≤ 128
   few-zones =
@@ -51,8 +42,8 @@ module _ {bytes text : List ℕ} {answer work answer′ work′ : List ℤ} {zon
   -- .. and so few rounds, of all `*` together.
   pub few-rounds : rounds ≤ most-rounds
   few-rounds =
-      let c = h .buffers .finishes .means in
-      rounds-few (Shows bytes) (some-few .0) (c .drill) (h .buffers .finishes .list) rounds shallow (omega (arith, some-few .1)) (c .evaluates)
+      comes-few (some-few .0) (some-few .1) (none DrillDepth (append-right (recordings ++ (DrillLength ∷ DrillForm ∷ DrillLetter ∷ DrillRange ∷ [])) (List·Memᴰ·head refl)))
+      (h .buffers .finishes .means)
 
   -- The front holds six words a zone, and every limit in it is within 1,000,000 of 0.
   pub front-length : length (frontOf answer′ zones) ≡ zones * zone-words

@@ -20,6 +20,7 @@ use Rattle.expression.specs.Grammar.{Form, alternative}
 use Rattle.meaning.specs.Satisfies.{Satisfies}
 use Rattle.meaning.specs.Lists.{repeated, RoundsOf, Sum}
 use Rattle.calls.specs.Outcome.{Outcome, RecordingLength, RecordingHead, RecordingChange, DrillLength, DrillForm, DrillLetter, DrillRange, DrillDepth, Overflow, returned, Cause, First, NoCause, frontOf, FindAs}
+use Rattle.calls.specs.Within.{FirstWithin, NoCauseWithin, WithinAs}
 
 -- ==== Demand 1: the outcome and both buffers are the defined ones. "Each is given when its cause holds and no earlier one does, and never
 -- otherwise. A drill is accepted where no cause holds"
@@ -28,6 +29,14 @@ pub record Demand1 (bytes text : List ℕ) (answer work : List ℤ) (o : Outcome
   pub defined : FindAs bytes text answer work o answer′ work′
   pub refuses : (p : Outcome) → 0 < returned p .number → (returned o .number ≡ returned p .number) ↔ First bytes text (length answer) (length work) p
   pub accepts : (returned o .number ≡ 0) ↔ NoCause bytes text (length answer) (length work)
+
+-- the same of a call that is told the rounds left, over its own list of causes, with the rounds left after it; and "A drill not stopped lists
+-- exactly what it lists when run by itself"
+pub record Demand1Within (bytes text : List ℕ) (left : ℕ) (answer work : List ℤ) (o : Outcome) (left′ : ℕ) (answer′ work′ : List ℤ) : Type 0 where
+  pub defined : WithinAs bytes text left answer work o left′ answer′ work′
+  pub refuses : (p : Outcome) → 0 < returned p .number → (returned o .number ≡ returned p .number) ↔ FirstWithin bytes text left (length answer) (length work) p
+  pub accepts : (returned o .number ≡ 0) ↔ NoCauseWithin bytes text left (length answer) (length work)
+  pub alone : ¬ (returned o .number ≡ 13) → FindAs bytes text answer work o answer′ work′
 
 -- ==== Demand 2
 

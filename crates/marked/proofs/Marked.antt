@@ -38,6 +38,7 @@ use Rattle.outcome.specs.declared.Outcome.the-variants.{Finished}
 use Rattle.calls.specs.Outcome.{Comes, room, words, fronted, cleared, FindAs}
 use Rattle.marked.specs.Marked.{R, Row, marked, Gives, RowHolds}
 use Rattle.calls.proofs.Outcomes.{recordings, drills, Without, recording-call, drill-none, accepted-call}
+use Rattle.finder.proofs.Unstopped.{call-find}
 use Rattle.finder.proofs.Calls.{find-unique}
 
 -- ---- a drill
@@ -72,23 +73,24 @@ gives {text} {e} {L} {r} form pass evaluates answer work long roomy =
     comes : Comes R text (value L r)
     comes = record { drill = e; form = taken .form; evaluates = evaluates }
 
-    none : Without R text (length answer) (length work) (recordings ++ drills)
-    none = drill-none R text (length answer) (length work) (recording-call R text (length answer) (length work) (Recorded _) (example .read)) taken
+    -- told its own rounds it is not stopped
+    none : Without R text r (length answer) (length work) (recordings ++ drills)
+    none = drill-none R text r (length answer) (length work) (recording-call R text r (length answer) (length work) (Recorded _) (example .read)) taken
 
     call : FindAs R text answer work (Finished (length L) r) (fronted (words L) answer) (cleared work)
     call =
         record {
-          outcome = accepted-call R text (length answer) (length work) none roomy comes long;
+          outcome = call-find R text r (length answer) (length work) (accepted-call R text r (length answer) (length work) none roomy comes (omega arith) long) (λ e. omega arith);
           buffers = record { finishes = record { list = L; means = comes; count = refl }; answer-filled = refl; work-cleared = refl };
         }
 
 -- The list of a letter, from its runs.
-spelt : {P : ℕ → Type 0} {rs : List Run} → Runs P 0 (ticks R) rs → Letter P 0 (ticks R) (ended (insert-each (runZones rs) []) 0)
+spelt : {P : ℕ → Type 0} {rs : List Run} → Runs P 0 (ticks R) rs → Letter P 0 (ticks R) (ended (insert-each (runZones rs) []))
 spelt m = record { runs = _; maximal = m; built = refl }
 
 -- The list of an event, from the runs that it ends.
 went-over : {level : Level} {rs : List Run} → Runs (Shows R 0 level) 0 (ticks R) rs
-    → Moments (Shows R 0 level) (Shows R 0 (other level)) 0 (ticks R) (ended (insert-each (momentZones (endsBefore (ticks R) rs)) []) 0)
+    → Moments (Shows R 0 level) (Shows R 0 (other level)) 0 (ticks R) (ended (insert-each (momentZones (endsBefore (ticks R) rs)) []))
 went-over {level} {rs} m =
     let first : 0 ≡ 0 - 1 = omega arith in
     let last : ticks R ≡ min (ticks R + 1) (ticks R) = omega arith in
@@ -124,23 +126,23 @@ marked-set x =
     let fall = went-over (example .highs-are) in
     each
     (gives refl refl a
-    ⨾ gives refl refl (goes a (goes a refl))
-    ⨾ gives refl refl (goes a (goes a refl))
-    ⨾ gives refl refl (goes a (goes not-a refl))
-    ⨾ gives refl refl (goes a refl)
-    ⨾ gives refl refl (goes a refl)
-    ⨾ gives refl refl (goes a refl)
-    ⨾ gives refl refl (goes a refl)
-    ⨾ gives refl refl (goes a refl)
-    ⨾ gives refl refl (goes a refl)
-    ⨾ gives refl refl (goes a refl)
-    ⨾ gives refl refl (goes a (goes not-a refl))
+    ⨾ gives refl refl (goes a (goes a refl refl) refl)
+    ⨾ gives refl refl (goes a (goes a refl refl) refl)
+    ⨾ gives refl refl (goes a (goes not-a refl refl) refl)
+    ⨾ gives refl refl (goes a refl refl)
+    ⨾ gives refl refl (goes a refl refl)
+    ⨾ gives refl refl (goes a refl refl)
+    ⨾ gives refl refl (goes a refl refl)
+    ⨾ gives refl refl (goes a refl refl)
+    ⨾ gives refl refl (goes a refl refl)
+    ⨾ gives refl refl (goes a refl refl)
+    ⨾ gives refl refl (goes a (goes not-a refl refl) refl)
     ⨾ gives refl refl refl
     ⨾ gives refl refl rise
     ⨾ gives refl refl fall
-    ⨾ gives refl refl (goes rise (goes (goes a refl) refl))
-    ⨾ gives refl refl (goes a (goes fall refl))
-    ⨾ gives refl refl (goes rise refl)
+    ⨾ gives refl refl (goes rise (goes (goes a refl refl) refl refl) refl)
+    ⨾ gives refl refl (goes a (goes fall refl refl) refl)
+    ⨾ gives refl refl (goes rise refl refl)
     ⨾ refl
     ⨾ refl
     ⨾ refl

@@ -23,27 +23,32 @@ use Rattle.sheet.proofs.Bounds.{Held, refused-length, finished-length}
 use Rattle.marking.specs.Marking.{answer-words, MarkedAs}
 
 -- no sheet is longer
-abbrev longest : ℕ
+abbrev pub longest : ℕ
 longest = 12_288
+
+-- the words of the zones that an outcome lists
+abbrev pub listed : Outcome → List ℤ → List ℤ
+listed o answer = frontOf answer (returned o .zones)
+
+-- Of an outcome that is refused, or of a call that `find` would have so: all words of the listed zones are there, and the text is short.
+pub roomy : {bytes text : List ℕ} (o : Outcome) {answer work answer′ work′ : List ℤ} → (returned o .number ≡ 0 → FindAs bytes text answer work o answer′ work′)
+    → (returned o .zones * 6 ≤ length (listed o answer′)) × (length (sheet (returned o) (listed o answer′)) ≤ longest)
+roomy {bytes} {text} o {answer} {work} {answer′} {work′} call = elim (decLe 1 (returned o .number)) [ yes h ↦ refused h | no h ↦ finished (omega arith) ]
+  where
+    refused : 1 ≤ returned o .number → (returned o .zones * 6 ≤ length (listed o answer′)) × (length (sheet (returned o) (listed o answer′)) ≤ longest)
+    refused h = let r = refusal-sheet o h (listed o answer′) in (omega (arith, r .1), rw (r .0) (omega (arith, refused-length (returned o .number) (r .2))))
+
+    finished : returned o .number ≡ 0 → (returned o .zones * 6 ≤ length (listed o answer′)) × (length (sheet (returned o) (listed o answer′)) ≤ longest)
+    finished e =
+        let c = subst (λ (p : Outcome). FindAs bytes text answer work p answer′ work′) (zero-finished o e) (call e) in
+        let held : Held (listed o answer′) (returned o .zones) = λ z m. ranged-more (omega arith) (front-ranged c z m) in
+        let n = few-zones c in
+        let r = few-rounds c in
+        (omega (arith, front-length c), rw (finished-sheet (returned o) (listed o answer′) e) (omega (arith, finished-length (listed o answer′) (returned o .zones) (returned o .rounds) held (omega arith) (omega arith))))
 
 module _ {bytes text : List ℕ} {o : Outcome} {answer₁ work₁ : List ℤ} (call : FindAs bytes text (replicate answer-words (pos 0)) (replicate room (pos 0)) o answer₁ work₁) where
   abbrev front : List ℤ
-  front = frontOf answer₁ (returned o .zones)
-
-  -- all words of the listed zones are there, and the text is short
-  roomy : (returned o .zones * 6 ≤ length front) × (length (sheet (returned o) front) ≤ longest)
-  roomy = elim (decLe 1 (returned o .number)) [ yes h ↦ refused h | no h ↦ finished (omega arith) ]
-    where
-      refused : 1 ≤ returned o .number → (returned o .zones * 6 ≤ length front) × (length (sheet (returned o) front) ≤ longest)
-      refused h = let r = refusal-sheet o h front in (omega (arith, r .1), rw (r .0) (omega (arith, refused-length (returned o .number) (r .2))))
-
-      finished : returned o .number ≡ 0 → (returned o .zones * 6 ≤ length front) × (length (sheet (returned o) front) ≤ longest)
-      finished e =
-          let c = subst (λ (p : Outcome). FindAs bytes text (replicate answer-words (pos 0)) (replicate room (pos 0)) p answer₁ work₁) (zero-finished o e) call in
-          let held : Held front (returned o .zones) = λ z m. ranged-more (omega arith) (front-ranged c z m) in
-          let n = few-zones c in
-          let r = few-rounds c in
-          (omega (arith, front-length c), rw (finished-sheet (returned o) front e) (omega (arith, finished-length front (returned o .zones) (returned o .rounds) held (omega arith) (omega arith))))
+  front = listed o answer₁
 
   -- What is answered is the length of the whole text: that many bytes of the buffer are the sheet, and those behind it are as they were.
   abbrev pub Prints : List ℕ → List ℕ → Printed → Type 0
@@ -61,7 +66,7 @@ module _ {bytes text : List ℕ} {o : Outcome} {answer₁ work₁ : List ℤ} (c
       same = b ∙ ap (λ (ws : List ℤ). left (returned o) ws out) (f ∙ ap (λ (r : Returned). frontOf answer₁ (r .zones)) t)
 
       all : answer (returned o) front (length out) ≡ Bytes (length (sheet (returned o) front))
-      all = fits (returned o) front (length out) (roomy .0) (omega (arith, roomy .1))
+      all = let r = roomy o (λ _. call) in fits (returned o) front (length out) (r .0) (omega (arith, r .1))
 
       whole : (v : Printed) → v ≡ answer (returned o) front (length out) → Prints out out′ v
       whole (Bytes n) e =

@@ -1,31 +1,19 @@
 -- From what the buffers hold of two files to the files: longer ones are refused for their length, and so are their first bytes.
-use mathlib.Core.Path.{_≡_, sym, ap, subst, _∙_}
+use mathlib.Core.Path.{_≡_, ap, subst}
 use mathlib.Core.Logic.{inl, inr, ⊎-elim}
 use mathlib.Core.List.{List}
-use Prim.Native.Nat.{ℕ, suc, _≤_, _<_}
-use native.Mathlib.Decide.{decLe}
+use Prim.Native.Nat.{ℕ, suc, _<_}
 use native.Mathlib.Omega.{arith}
 use lib.IntN.{ℤ}
-use lib.ListN.{length, take, length-take}
-use lib.Seq.{take-all, take-take}
+use lib.ListN.{length, take}
 use Rattle.outcome.specs.declared.Outcome.{Outcome}
 use Rattle.calls.specs.Outcome.{largest, FindAs}
 use Rattle.finder.proofs.Longer.{Alike, longer}
-use Rattle.files.specs.Files.{trimmed}
+use Rattle.files.specs.Files.{trimmed, HoldsFile}
 use Rattle.files.proofs.Trimmed.{trimmed-length}
+use Rattle.files.proofs.Held.{held}
 use Rattle.marking.specs.Marking.{MarkedAs}
-use Rattle.marks.specs.Marks.{HoldsFile, Marks}
-
--- what was read may itself be the file, so that `mark` promises something of every two buffers
-pub itself : {n : ℕ} {buffer : List ℕ} → n ≤ length buffer → HoldsFile buffer n (take n buffer)
-itself {n} {buffer} h = record { count = omega (arith, length-take n buffer); bytes = sym (take-take n n buffer (omega arith)) }
-
--- a buffer with room for one byte more than `most`
-held : {most n : ℕ} {buffer file : List ℕ} → most < length buffer → HoldsFile buffer n file → Alike most (take n buffer) file
-held {n = n} {buffer = buffer} {file = file} room h = elim (decLe (length file) (length buffer)) [
-  | yes k ↦ inl (h .bytes ∙ take-all n file (omega (arith, h .count)))
-  | no k ↦ inr (omega (arith, h .count, length-take n buffer), omega arith)
-]
+use Rattle.marks.specs.Marks.{Marks}
 
 held-trimmed : {most : ℕ} {xs ys : List ℕ} → Alike (suc most) xs ys → Alike most (trimmed xs) (trimmed ys)
 held-trimmed {xs = xs} {ys = ys} a =

@@ -8,9 +8,10 @@ use Rattle.zone.specs.declared.MaybeZone.{MaybeZone}
 use Rattle.zone.specs.declared.MaybeZone.the-variants.{Zone as zone}
 use Rattle.zone.specs.Zone.{Proper, run, diagonal}
 use Rattle.zone.proofs.Laws.{proper-run, proper-within, proper-diagonal}
-use Rattle.list.specs.Insert.{Built, listed, overflow, insert-each}
+use Rattle.list.specs.Insert as puts
+use Rattle.list.specs.Insert.{Built, listed, insert-each}
 use Rattle.operators.specs.Operators.{union as unite, meets, compositions, banded}
-use Rattle.star.specs.Star.{Closure, finished, overflow, Star as Stars}
+use Rattle.purse.proofs.Values.{begun-with}
 use Rattle.list.proofs.Theorems.{WellFormed, built-well}
 use Rattle.operators.proofs.Theorems.{union-well, meets-well, compositions-well, banded-well}
 use Rattle.star.proofs.Theorems.{star-well, star-unique, star-exists}
@@ -26,7 +27,7 @@ use Rattle.expression.specs.declared.Sign.the-variants.{High, Low, Rise, Fall}
 use Rattle.expression.specs.declared.Join.the-variants.{Union, Intersection, Concatenation}
 use Rattle.expression.specs.declared.Unary.the-variants.{Star, Band}
 use Rattle.expression.specs.Expression.{Expression, epsilon, literal, join, unary}
-use Rattle.meaning.specs.Lists.{Value, value, overflow, ended, starred, Then, Then.goes, Then.stops, Both, runZones, Letter, momentZone, momentZones, Moments, rangeBand, Closes, joinList, Evaluates}
+use Rattle.meaning.specs.Lists.{Value, value, overflow, begun, with-rounds, ended, Then, Then.goes, Then.stops, Both, runZones, Letter, momentZone, momentZones, Moments, rangeBand, joinList, Evaluates}
 
 -- levels of finite variability on ticks from..to: those of each channel and level make a list of maximal runs, and one of the events where
 -- the channel leaves the level
@@ -37,35 +38,33 @@ pub record FiniteVariability (Shows : ℕ → Level → ℕ → Type 0) (from to
 -- ---- one value
 
 -- the relation holds of no two values
-abbrev One : (Value → Type 0) → Type 0
+abbrev pub One : (Value → Type 0) → Type 0
 One P = (v w : Value) → P v → P w → v ≡ w
 
-pub clash : {A : Type 0} {L : List Zone} {r : ℕ} → value L r ≡ overflow → A
+pub clash : {A : Type 0} {L : List Zone} {r b f : ℕ} → value L r ≡ overflow b f → A
 clash e = let z : _≡_ {A = ℕ} 0 1 = cc in absurd (omega arith)
 
-then-one : {operand : Value → Type 0} {next : List Zone → ℕ → Value → Type 0} → One operand → ((A : List Zone) (r : ℕ) → One (next A r))
+then-one : {operand : Value → Type 0} {next : List Zone → Value → Type 0} → One operand → ((A : List Zone) → One (next A))
     → One (Then operand next)
-then-one {next = next} one ones v w (goes {A} {r} p f) (goes {A = B} {r = s} q g) =
+then-one {next = next} one ones v w (goes {A} {r} {w = x} p f h) (goes {A = B} {r = s} {w = y} q g k) =
     let e : value A r ≡ value B s = one _ _ p q in
     let a : A ≡ B = cc in
     let b : r ≡ s = cc in
-    ones B s v w (subst (λ (n : ℕ). next B n v) b (subst (λ (L : List Zone). next L r v) a f)) g
-then-one one ones v w (goes p f) (stops q) = clash (one _ _ p q)
-then-one one ones v w (stops p) (goes q g) = clash (one _ _ q p)
-then-one one ones v w (stops p) (stops q) = refl
+    let c : x ≡ y = ones B x y (subst (λ (L : List Zone). next L x) a f) g in
+    h ∙ (λ i. with-rounds (b i) (c i)) ∙ sym k
+then-one one ones v w (goes p f h) (stops q) = clash (one _ _ p q)
+then-one one ones v w (stops p) (goes q g h) = clash (one _ _ q p)
+then-one one ones v w (stops p) (stops q) = one _ _ p q
 
 both-one : (build : List Zone → List Zone → Built) {left right : Value → Type 0} → One left → One right → One (Both build left right)
-both-one build l r = then-one l (λ A m. then-one r (λ B n v w p q. p ∙ sym q))
+both-one build l r = then-one l (λ A. then-one r (λ B v w p q. p ∙ sym q))
 
 letter-one : {P : ℕ → Type 0} {from to : ℕ} → One (Letter P from to)
-letter-one v w p q = p .built ∙ ap (λ (rs : List Run). ended (insert-each (runZones rs) []) 0) (runs-unique (p .maximal) (q .maximal)) ∙ sym (q .built)
+letter-one v w p q = p .built ∙ ap (λ (rs : List Run). ended (insert-each (runZones rs) [])) (runs-unique (p .maximal) (q .maximal)) ∙ sym (q .built)
 
 moments-one : {P Q : ℕ → Type 0} {from to : ℕ} → One (Moments P Q from to)
 moments-one v w p q =
-    p .built ∙ ap (λ (ss : List ℕ). ended (insert-each (momentZones ss) []) 0) (events-unique (p .events) (q .events)) ∙ sym (q .built)
-
-closes-one : {from to : ℕ} (A : List Zone) (r : ℕ) → One (Closes from to A r)
-closes-one A r v w p q = p .built ∙ ap (λ (o : Closure). starred o r) (star-unique (p .star) (q .star)) ∙ sym (q .built)
+    p .built ∙ ap (λ (ss : List ℕ). ended (insert-each (momentZones ss) [])) (events-unique (p .events) (q .events)) ∙ sym (q .built)
 
 module _ (Shows : ℕ → Level → ℕ → Type 0) (from to : ℕ) where
   -- An expression comes to no two values: recording and drill alone decide the lists and the rounds.
@@ -76,20 +75,24 @@ module _ (Shows : ℕ → Level → ℕ → Type 0) (from to : ℕ) where
   evaluates-unique (literal Rise k) v w p q = moments-one v w p q
   evaluates-unique (literal Fall k) v w p q = moments-one v w p q
   evaluates-unique (join j e f) v w p q = both-one (joinList j) (evaluates-unique e) (evaluates-unique f) v w p q
-  evaluates-unique (unary Star e) v w p q = then-one (evaluates-unique e) closes-one v w p q
-  evaluates-unique (unary (Band r) e) v w p q = then-one (evaluates-unique e) (λ A s a b m n. m ∙ sym n) v w p q
+  evaluates-unique (unary Star e) v w p q = then-one (evaluates-unique e) (λ A a b m n. star-unique m n) v w p q
+  evaluates-unique (unary (Band r) e) v w p q = then-one (evaluates-unique e) (λ A a b m n. m ∙ sym n) v w p q
 
 -- ---- the list is well formed
 
--- a list that came out was built
-pub listed-of : (b : Built) {L : List Zone} {r s : ℕ} → value L r ≡ ended b s → (b ≡ listed L) × (r ≡ s)
+-- a list that came out was built, without rounds
+pub listed-of : (b : Built) {L : List Zone} {r : ℕ} → value L r ≡ ended b → (b ≡ listed L) × (r ≡ 0)
 listed-of (listed M) e = (cc, cc)
-listed-of overflow e = clash e
+listed-of puts.overflow e = clash e
 
--- an operand with a list, and what came of it
-pub then-parts : {operand : Value → Type 0} {next : List Zone → ℕ → Value → Type 0} {L : List Zone} {t : ℕ} → Then operand next (value L t)
-    → (A : List Zone) × (r : ℕ) × operand (value A r) × next A r (value L t)
-then-parts (goes {A} {r} p f) = (A, r, p, f)
+-- an operand with a list, and what came of it, the operand's rounds coming first
+pub then-parts : {operand : Value → Type 0} {next : List Zone → Value → Type 0} {L : List Zone} {t : ℕ} → Then operand next (value L t)
+    → (A : List Zone) × (r : ℕ) × (s : ℕ) × operand (value A r) × next A (value L s) × (t ≡ r + s)
+then-parts {operand} {next} {L} {t} (goes {A} {r} {w = w} p f h) = go w f h
+  where
+    go : (w : Value) → next A w → value L t ≡ with-rounds r w → (A : List Zone) × (r : ℕ) × (s : ℕ) × operand (value A r) × next A (value L s) × (t ≡ r + s)
+    go (value M s) f h = let q : M ≡ L = cc in (A, r, s, p, subst (λ (K : List Zone). next A (value K s)) q f, cc)
+    go (overflow b g) f h = clash h
 
 -- two operands with their lists and rounds, and what was built of them
 pub record Parts (build : List Zone → List Zone → Built) (left right : Value → Type 0) (L : List Zone) (t : ℕ) : Type 0 where
@@ -106,18 +109,18 @@ pub both-parts : (build : List Zone → List Zone → Built) {left right : Value
     → Parts build left right L t
 both-parts build p =
     let a = then-parts p in
-    let b = then-parts (a .3) in
-    let c = listed-of (build (a .0) (b .0)) (b .3) in
-    record { one = a .0; two = b .0; rounds-one = a .1; rounds-two = b .1; first = a .2; second = b .2; built = c .0; total = c .1 }
-
--- the star's own rounds
-pub closes-parts : {from to : ℕ} {A G : List Zone} {r t : ℕ} → Closes from to A r (value G t)
-    → (k : ℕ) × Stars A (diagonal from to) (finished k G) × (t ≡ r + k)
-closes-parts {from} {to} {A} {G} {r} {t} c = go (c .outcome) (c .star) (c .built)
-  where
-    go : (o : Closure) → Stars A (diagonal from to) o → value G t ≡ starred o r → (k : ℕ) × Stars A (diagonal from to) (finished k G) × (t ≡ r + k)
-    go (finished k F) s e = let q : F ≡ G = cc in (k, subst (λ (L : List Zone). Stars A (diagonal from to) (finished k L)) q s, cc)
-    go overflow s e = clash e
+    let b = then-parts (a .4) in
+    let c = listed-of (build (a .0) (b .0)) (b .4) in
+    record {
+      one = a .0;
+      two = b .0;
+      rounds-one = a .1;
+      rounds-two = b .1;
+      first = a .3;
+      second = b .3;
+      built = c .0;
+      total = let h = a .5 in let k = b .5 in let n = c .1 in omega arith;
+    }
 
 -- the runs of a letter, and the list that was built of them
 pub letter-parts : {P : ℕ → Type 0} {from to : ℕ} {L : List Zone} {t : ℕ} → Letter P from to (value L t)
@@ -166,38 +169,38 @@ module _ (Shows : ℕ → Level → ℕ → Type 0) {from to : ℕ} (order : fro
       let q = both-parts compositions p in
       compositions-well (q .one) (q .two) (evaluates-well e _ (q .first) .proper) (evaluates-well f _ (q .second) .proper) (q .built)
   evaluates-well (unary Star e) t p =
-      let q = then-parts p in let c = closes-parts (q .3) in star-well (c .1) order (evaluates-well e _ (q .2))
+      let q = then-parts p in star-well (q .4) order (evaluates-well e _ (q .3))
   evaluates-well (unary (Band r) e) t p =
       let q = then-parts p in
-      banded-well (rangeBand from to r) (q .0) (evaluates-well e _ (q .2) .proper) (listed-of (banded (rangeBand from to r) (q .0)) (q .3) .0)
+      banded-well (rangeBand from to r) (q .0) (evaluates-well e _ (q .3) .proper) (listed-of (banded (rangeBand from to r) (q .0)) (q .4) .0)
 
 -- ---- some value
 
 -- the relation holds of some value
-abbrev Some : (Value → Type 0) → Type 0
+abbrev pub Some : (Value → Type 0) → Type 0
 Some P = (v : Value) × P v
 
-then-some : {operand : Value → Type 0} {next : List Zone → ℕ → Value → Type 0} → Some operand
-    → ((A : List Zone) (r : ℕ) → operand (value A r) → Some (next A r)) → Some (Then operand next)
+pub then-some : {operand : Value → Type 0} {next : List Zone → Value → Type 0} → Some operand
+    → ((A : List Zone) (r : ℕ) → operand (value A r) → Some (next A)) → Some (Then operand next)
 then-some {operand} {next} p f = go (p .0) (p .1)
   where
     go : (v : Value) → operand v → Some (Then operand next)
-    go (value A r) q = let n = f A r q in (n .0, goes q (n .1))
-    go overflow q = (overflow, stops q)
+    go (value A r) q = let n = f A r q in (with-rounds r (n .0), goes q (n .1) refl)
+    go (overflow b g) q = (overflow b g, stops q)
 
 both-some : (build : List Zone → List Zone → Built) {left right : Value → Type 0} → Some left → Some right → Some (Both build left right)
-both-some build l r = then-some l (λ A m _. then-some r (λ B n _. (ended (build A B) (m + n), refl)))
+both-some build l r = then-some l (λ A m _. then-some r (λ B n _. (ended (build A B), refl)))
 
 module _ {Shows : ℕ → Level → ℕ → Type 0} {from to : ℕ} (finite : FiniteVariability Shows from to) (some : from < to) where
   letter-some : (k : ℕ) (level : Level) → Some (Letter (Shows k level) from to)
-  letter-some k level = let r = finite .runs k level in (ended (insert-each (runZones (r .0)) []) 0, record { runs = r .0; maximal = r .1 .runs; built = refl })
+  letter-some k level = let r = finite .runs k level in (ended (insert-each (runZones (r .0)) []), record { runs = r .0; maximal = r .1 .runs; built = refl })
 
   moments-some : (k : ℕ) (level : Level) → Some (Moments (Shows k level) (Shows k (other level)) from to)
-  moments-some k level = let e = finite .events k level in (ended (insert-each (momentZones (e .0)) []) 0, record { at = e .0; events = e .1; built = refl })
+  moments-some k level = let e = finite .events k level in (ended (insert-each (momentZones (e .0)) []), record { at = e .0; events = e .1; built = refl })
 
   -- An expression comes to some value: every repetition ends.
   pub evaluates-exists : (e : Expression) → (v : Value) × Evaluates Shows from to e v
-  evaluates-exists epsilon = (ended (insert-each (zone (diagonal from to) ∷ []) []) 0, refl)
+  evaluates-exists epsilon = (ended (insert-each (zone (diagonal from to) ∷ []) []), refl)
   evaluates-exists (literal High k) = letter-some k level.High
   evaluates-exists (literal Low k) = letter-some k level.Low
   evaluates-exists (literal Rise k) = moments-some k level.Low
@@ -205,6 +208,12 @@ module _ {Shows : ℕ → Level → ℕ → Type 0} {from to : ℕ} (finite : Fi
   evaluates-exists (join j e f) = both-some (joinList j) (evaluates-exists e) (evaluates-exists f)
   evaluates-exists (unary Star e) =
       then-some (evaluates-exists e)
-      (λ A r p. let s = star-exists (evaluates-well Shows (omega arith) e r p .proper) some (diagonal from to) in
-      (starred (s .0) r, record { outcome = s .0; star = s .1; built = refl }))
-  evaluates-exists (unary (Band r) e) = then-some (evaluates-exists e) (λ A s _. (ended (banded (rangeBand from to r) A) s, refl))
+      (λ A r p. star-exists (evaluates-well Shows (omega arith) e r p .proper) some (diagonal from to))
+  evaluates-exists (unary (Band r) e) = then-some (evaluates-exists e) (λ A s _. (ended (banded (rangeBand from to r) A), refl))
+
+-- ---- the rounds begun
+
+-- what comes of an operand begins no fewer rounds than the operand
+pub then-begun : {operand : Value → Type 0} {next : List Zone → Value → Type 0} → One operand → {u v : Value} → operand u → Then operand next v → begun u ≤ begun v
+then-begun one p (goes {A} {r} {w} q f h) = let a = ap begun (one _ _ p q) in let b = ap begun h in let c = begun-with r w in omega arith
+then-begun one p (stops q) = let a = ap begun (one _ _ p q) in omega arith

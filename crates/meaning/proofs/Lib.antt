@@ -4,3 +4,4 @@ pub mod Meaning
 pub mod Evaluation
 pub mod Members
 pub mod Totals
+pub mod Finite

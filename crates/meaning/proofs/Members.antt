@@ -35,7 +35,7 @@ use Rattle.meaning.specs.Satisfies.{Throughout, Moment, lowerLimit, NoLo
 use Rattle.meaning.specs.Lists.{value, runZones, Letter, momentZone, momentZones, Moments, longest, rangeBand, Evaluates}
 use Rattle.meaning.proofs.Strict.{≤-<-trans, <-≤-trans, tick-<, tick-≤-back, floor, floor-≤, floor-<}
 use Rattle.meaning.proofs.Meaning.{pieces-forward, satisfies-forward}
-use Rattle.meaning.proofs.Evaluation.{FiniteVariability, listed-of, then-parts, both-parts, closes-parts, letter-parts, moments-parts, evaluates-well}
+use Rattle.meaning.proofs.Evaluation.{FiniteVariability, listed-of, then-parts, both-parts, letter-parts, moments-parts, evaluates-well}
 
 -- what lies in a list of proper zones is inside from..to
 lies-inside : {from to : ℕ} {L : List Zone} {x y : Time} → AllProper from to L → Lies L x y → Stretch from to x y
@@ -179,15 +179,14 @@ module _ (Shows : ℕ → Level → ℕ → Type 0) {from to : ℕ} (finite : Fi
       )
   members (unary Star e) t p x y s =
       let q = then-parts p in
-      let c = closes-parts (q .3) in
-      let w = evaluates-well Shows order e _ (q .2) .proper in
-      let i = pieces-iff w (satisfies-forward Shows e) (members e _ (q .2)) s in
-      Iff·trans (star-lies (c .1) w x y (s .0) (s .2)) (λ l. (l .0, i (l .0) .0 (l .1)), λ h. (h .0, i (h .0) .1 (h .1)))
+      let w = evaluates-well Shows order e _ (q .3) .proper in
+      let i = pieces-iff w (satisfies-forward Shows e) (members e _ (q .3)) s in
+      Iff·trans (star-lies (q .4) w x y (s .0) (s .2)) (λ l. (l .0, i (l .0) .0 (l .1)), λ h. (h .0, i (h .0) .1 (h .1)))
   members (unary (Band r) e) t p x y s =
       let q = then-parts p in
-      let a = members e _ (q .2) x y s in
+      let a = members e _ (q .3) x y s in
       let b = range-band r order s in
-      Iff·trans (banded-lies (rangeBand from to r) (q .0) (listed-of (banded (rangeBand from to r) (q .0)) (q .3) .0) x y)
+      Iff·trans (banded-lies (rangeBand from to r) (q .0) (listed-of (banded (rangeBand from to r) (q .0)) (q .4) .0) x y)
       (λ l. (a .0 (l .0), b .0 (l .1)), λ h. (a .1 (h .0), b .1 (h .1)))
 
   -- and its list is cut into pieces as the expression is

@@ -1,5 +1,5 @@
 -- The rounds of each `*` written in an expression: their bound, their sum, and the pieces of a repetition.
-use mathlib.Core.Path.{_≡_, refl, sym, subst}
+use mathlib.Core.Path.{_≡_, refl, sym, subst, ap}
 use mathlib.Core.List.{List, [], _∷_, _++_, List·Memᴰ, List·Memᴰ·head, List·Memᴰ·tail, List·Memᴰ·not-nil as not-nil}
 use Prim.Native.Nat.{ℕ, suc, _+_, _-_, _*_, _^_, _≤_, _<_, max}
 use native.Mathlib.Nat.{pow-suc, pow-le-pow-right, mul-le-mul-right, le-trans}
@@ -9,18 +9,20 @@ use Rattle.limit.specs.Time.{Time}
 use Rattle.zone.specs.declared.Zone.{Zone}
 use Rattle.zone.specs.declared.MaybeZone.the-variants.{Zone as zone}
 use Rattle.zone.specs.Zone.{Stretch, diagonal}
-use Rattle.list.specs.Insert.{capacity, insert-each}
+use Rattle.list.specs.Insert as puts
+use Rattle.list.specs.Insert.{capacity, Built, listed, insert-each}
 use Rattle.operators.specs.Operators.{banded}
-use Rattle.star.specs.Star.{finished, Star as Stars}
+use Rattle.purse.proofs.Values.{begun-with, spent-with}
+use Rattle.star.specs.Star.{Star as Stars}
 use Rattle.star.specs.Pieces.{Pieces}
-use Rattle.star.proofs.Theorems.{star-lies, star-unique, star-bound, star-pieces}
+use Rattle.star.proofs.Theorems.{star-lies, star-unique, star-bound, star-begun, star-almost, star-pieces}
 use Rattle.runs.specs.declared.Level.{Level}
 use Rattle.expression.specs.declared.Sign.the-variants.{High, Low, Rise, Fall}
 use Rattle.expression.specs.declared.Unary.the-variants.{Star, Band}
 use Rattle.expression.specs.Expression.{Expression, epsilon, literal, join, unary, depth}
 use Rattle.meaning.specs.Satisfies.{Satisfies}
-use Rattle.meaning.specs.Lists.{value, rangeBand, joinList, Evaluates, repeated, RoundsOf, Sum, Sum.none, Sum.also}
-use Rattle.meaning.proofs.Evaluation.{FiniteVariability, listed-of, letter-parts, moments-parts, then-parts, both-parts, closes-parts, evaluates-unique, evaluates-well}
+use Rattle.meaning.specs.Lists.{Value, value, overflow, begun, spent, ended, Then, Then.goes, Then.stops, Both, rangeBand, joinList, Evaluates, runZones, momentZones, repeated, RoundsOf, Sum, Sum.none, Sum.also}
+use Rattle.meaning.proofs.Evaluation.{FiniteVariability, listed-of, letter-parts, moments-parts, then-parts, both-parts, evaluates-unique, evaluates-well}
 use Rattle.meaning.proofs.Members.{pieces-members}
 
 -- ---- sums
@@ -41,18 +43,13 @@ module _ {P : Expression → ℕ → Type 0} where
   sum-unique one none none = refl
   sum-unique one (also {f = f} p s) (also q t) = let a = one f _ _ p q in let b = sum-unique one s t in omega arith
 
-  -- where each is at most b, the sum is at most b for each
-  pub sum-bound : {b : ℕ} → ((f : Expression) (k : ℕ) → P f k → k ≤ b) → {fs : List Expression} {n : ℕ} → Sum P fs n → n ≤ length fs * b
-  sum-bound few none = omega arith
-  sum-bound few (also {f = f} {k = k} p s) = let a = few f k p in let b = sum-bound few s in omega arith
-
 module _ (Shows : ℕ → Level → ℕ → Type 0) {from to : ℕ} where
   -- A `*` has one number of rounds.
   pub rounds-of-unique : (f : Expression) (k l : ℕ) → RoundsOf Shows from to f k → RoundsOf Shows from to f l → k ≡ l
   rounds-of-unique f k l p q =
       let e = evaluates-unique Shows from to f _ _ (p .list) (q .list) in
       let i : p .inner ≡ q .inner = cc in
-      let s = star-unique (subst (λ (A : List Zone). Stars A (diagonal from to) (finished k (p .outer))) i (p .star)) (q .star) in
+      let s = star-unique (subst (λ (A : List Zone). Stars A (diagonal from to) (value (p .outer) k)) i (p .star)) (q .star) in
       cc
 
   -- The total of rounds is the sum of the rounds of every `*` written, 0 where there is none.
@@ -67,11 +64,12 @@ module _ (Shows : ℕ → Level → ℕ → Type 0) {from to : ℕ} where
       let q = both-parts (joinList j) p in rw (q .total) (sum-append (evaluates-sum e _ _ (q .first)) (evaluates-sum f _ _ (q .second)))
   evaluates-sum (unary Star e) L t p =
       let q = then-parts p in
-      let c = closes-parts (q .3) in
-      let w : RoundsOf Shows from to e (c .0) = record { inner = q .0; before = q .1; list = q .2; outer = L; star = c .1 } in
-      subst (Sum (RoundsOf Shows from to) (e ∷ repeated e)) (let h = c .2 in omega arith) (also w (evaluates-sum e _ _ (q .2)))
+      let w : RoundsOf Shows from to e (q .2) = record { inner = q .0; before = q .1; list = q .3; outer = L; star = q .4 } in
+      subst (Sum (RoundsOf Shows from to) (e ∷ repeated e)) (let h = q .5 in omega arith) (also w (evaluates-sum e _ _ (q .3)))
   evaluates-sum (unary (Band r) e) L t p =
-      let q = then-parts p in rw (listed-of (banded (rangeBand from to r) (q .0)) (q .3) .1) (evaluates-sum e _ _ (q .2))
+      let q = then-parts p in
+      let n = listed-of (banded (rangeBand from to r) (q .0)) (q .4) .1 in
+      subst (Sum (RoundsOf Shows from to) (repeated e)) (let h = q .5 in omega arith) (evaluates-sum e _ _ (q .3))
 
 -- ---- one repetition
 
@@ -117,12 +115,67 @@ repeated-few (join j e f) = both-few e f (repeated-few e) (repeated-few f)
 repeated-few (unary Star e) = one-few e (repeated-few e)
 repeated-few (unary (Band r) e) = let h = one-few e (repeated-few e) in omega arith
 
-module _ (Shows : ℕ → Level → ℕ → Type 0) {from to : ℕ} (some : from < to) where
-  rounds-of-few : (f : Expression) (k : ℕ) → RoundsOf Shows from to f k → k ≤ capacity + (to - from)
-  rounds-of-few f k w = let h = rounds-of-bound Shows some w in let s = evaluates-well Shows (omega arith) f _ (w .list) .short in omega arith
+-- ---- the rounds begun
 
-  -- So the total of rounds is at most 128 + (to − from) for each `*` that an expression of its depth has room for.
-  pub rounds-bound : (e : Expression) (L : List Zone) (t : ℕ) → Evaluates Shows from to e (value L t) → t ≤ 2 ^ depth e * (capacity + (to - from))
-  rounds-bound e L t p =
+-- a list that is built without rounds begins none
+built-begun : {v : Value} (b : Built) → v ≡ ended b → begun v ≡ 0
+built-begun (listed L) e = ap begun e
+built-begun puts.overflow e = ap begun e
+
+-- where the operand begins at most m rounds, and what comes of a list of it at most n, the whole begins at most both
+then-few : {operand : Value → Type 0} {next : List Zone → Value → Type 0} {m n : ℕ} → ((v : Value) → operand v → begun v ≤ m)
+    → ((A : List Zone) (r : ℕ) → operand (value A r) → (w : Value) → next A w → begun w ≤ n) → (v : Value) → Then operand next v → begun v ≤ m + n
+then-few few fewer v (goes {A} {r} {w} p f h) =
+    let a = few (value A r) p in let b = fewer A r p w f in let c = ap begun h in let d = begun-with r w in omega arith
+then-few few fewer _ (stops {b} {f} p) = let a = few (overflow b f) p in omega arith
+
+-- all rounds begun are finished, but one at most
+abbrev Almost : Value → Type 0
+Almost v = begun v ≤ suc (spent v)
+
+built-almost : {v : Value} (b : Built) → v ≡ ended b → Almost v
+built-almost b e = let h = built-begun b e in omega arith
+
+then-almost : {operand : Value → Type 0} {next : List Zone → Value → Type 0} → ((v : Value) → operand v → Almost v)
+    → ((A : List Zone) (w : Value) → next A w → Almost w) → (v : Value) → Then operand next v → Almost v
+then-almost one other v (goes {A} {r} {w} p f h) =
+    let a = other A w f in let b = ap begun h in let c = ap spent h in let d = begun-with r w in let e = spent-with r w in omega arith
+then-almost one other _ (stops {b} {f} p) = one (overflow b f) p
+
+both-begun : (build : List Zone → List Zone → Built) {left right : Value → Type 0} {m n : ℕ} → ((v : Value) → left v → begun v ≤ m)
+    → ((v : Value) → right v → begun v ≤ n) → (v : Value) → Both build left right v → begun v ≤ m + n
+both-begun build {n = n} few fewer = then-few few (λ A r _ w p. let a = then-few {n = 0} fewer (λ B s _ u e. let b = built-begun (build A B) e in omega arith) w p in omega arith)
+
+module _ (Shows : ℕ → Level → ℕ → Type 0) (from to : ℕ) where
+  -- Of the rounds begun on the way to any value at most one is not finished.
+  pub begun-almost : (e : Expression) (v : Value) → Evaluates Shows from to e v → begun v ≤ suc (spent v)
+  begun-almost epsilon v p = built-almost (insert-each (zone (diagonal from to) ∷ []) []) p
+  begun-almost (literal High k) v p = built-almost (insert-each (runZones (p .runs)) []) (p .built)
+  begun-almost (literal Low k) v p = built-almost (insert-each (runZones (p .runs)) []) (p .built)
+  begun-almost (literal Rise k) v p = built-almost (insert-each (momentZones (p .at)) []) (p .built)
+  begun-almost (literal Fall k) v p = built-almost (insert-each (momentZones (p .at)) []) (p .built)
+  begun-almost (join j e f) v p = then-almost (begun-almost e) (λ A. then-almost (begun-almost f) (λ B w q. built-almost (joinList j A B) q)) v p
+  begun-almost (unary Star e) v p = then-almost (begun-almost e) (λ A w s. star-almost s) v p
+  begun-almost (unary (Band r) e) v p = then-almost (begun-almost e) (λ A w q. built-almost (banded (rangeBand from to r) A) q) v p
+
+module _ (Shows : ℕ → Level → ℕ → Type 0) {from to : ℕ} (some : from < to) where
+  -- The rounds begun on the way to any value are at most 128 + (to − from) for each `*` written.
+  begun-few : (e : Expression) (v : Value) → Evaluates Shows from to e v → begun v ≤ length (repeated e) * (capacity + (to - from))
+  unfolding repeated
+  begun-few epsilon v p = let b = built-begun (insert-each (zone (diagonal from to) ∷ []) []) p in omega arith
+  begun-few (literal High k) v p = let b = built-begun (insert-each (runZones (p .runs)) []) (p .built) in omega arith
+  begun-few (literal Low k) v p = let b = built-begun (insert-each (runZones (p .runs)) []) (p .built) in omega arith
+  begun-few (literal Rise k) v p = let b = built-begun (insert-each (momentZones (p .at)) []) (p .built) in omega arith
+  begun-few (literal Fall k) v p = let b = built-begun (insert-each (momentZones (p .at)) []) (p .built) in omega arith
+  begun-few (join j e f) v p = rw (length-append (repeated e) (repeated f)) (omega (arith, both-begun (joinList j) (begun-few e) (begun-few f) v p))
+  begun-few (unary Star e) v p = omega (arith, then-few (begun-few e) star-few v p)
+    where
+      star-few : (A : List Zone) (r : ℕ) → Evaluates Shows from to e (value A r) → (w : Value) → Stars A (diagonal from to) w → begun w ≤ capacity + (to - from)
+      star-few A r q w s = let l = evaluates-well Shows (omega arith) e r q in let h = star-begun (l .proper) some s in omega (arith, l .short)
+  begun-few (unary (Band r) e) v p = omega (arith, then-few {n = 0} (begun-few e) (λ A s _ w q. let b = built-begun (banded (rangeBand from to r) A) q in omega arith) v p)
+
+  -- So they are at most that for each `*` that an expression of its depth has room for.
+  pub rounds-bound : (e : Expression) (v : Value) → Evaluates Shows from to e v → begun v ≤ 2 ^ depth e * (capacity + (to - from))
+  rounds-bound e v p =
       let a : length (repeated e) ≤ 2 ^ depth e = let h = repeated-few e in omega arith in
-      le-trans (sum-bound rounds-of-few (evaluates-sum Shows e L t p)) (mul-le-mul-right (capacity + (to - from)) a)
+      le-trans (begun-few e v p) (mul-le-mul-right (capacity + (to - from)) a)

@@ -9,11 +9,10 @@ use Rattle.zone.specs.declared.MaybeZone.the-variants.{Zone as zone}
 use Rattle.limit.specs.declared.Limit.{Limit}
 use Rattle.limit.specs.Limit.{most}
 use Rattle.zone.specs.Zone.{run, diagonal, band as bandOf}
-use Rattle.list.specs.Insert as puts
-use Rattle.list.specs.Insert.{Built, listed, insert-each}
+use Rattle.list.specs.Insert.{Built, insert-each}
+pub use Rattle.purse.specs.Value.{Value, value, overflow, begun, spent, with-rounds, ended}
 use Rattle.operators.specs.Operators.{union as unite, meets, compositions, banded}
-use Rattle.star.specs.Star as rounds
-use Rattle.star.specs.Star.{Closure, finished, Star as Stars}
+use Rattle.star.specs.Star.{Star as Stars}
 use Rattle.runs.specs.declared.Level.{Level}
 use Rattle.runs.specs.declared.Level.the-variants.{High, Low}
 use Rattle.runs.specs.declared.Run.{Run}
@@ -31,28 +30,14 @@ use Rattle.expression.specs.declared.Unary.the-variants.{Star, Band}
 use Rattle.expression.specs.Expression.{Expression, epsilon, literal, join, unary}
 use Rattle.meaning.specs.Satisfies.{upperLimit, lowerLimit}
 
--- what an expression comes to: its list and its total of rounds, or that "a put would leave a list of 129 zones"
-pub data Value : Type 0 where
-  value : List Zone → ℕ → Value
-  overflow : Value
-
--- a list that is built after r rounds; and a star's, its own rounds being added to the r before them
-abbrev pub ended : Built → ℕ → Value
-ended (listed L) r = value L r
-ended puts.overflow r = overflow
-
-abbrev pub starred : Closure → ℕ → Value
-starred (finished k G) r = value G (r + k)
-starred rounds.overflow r = overflow
-
--- an operand, and what comes of its finished list and rounds; where the operand overflows, so does the whole
-pub data Then (operand : Value → Type 0) (next : List Zone → ℕ → Value → Type 0) : Value → Type 0 where
-  goes : {A : List Zone} {r : ℕ} {v : Value} → operand (value A r) → next A r v → Then operand next v
-  stops : operand overflow → Then operand next overflow
+-- an operand, and what comes of its finished list, after the operand's rounds; where the operand overflows, so does the whole
+pub data Then (operand : Value → Type 0) (next : List Zone → Value → Type 0) : Value → Type 0 where
+  goes : {A : List Zone} {r : ℕ} {w v : Value} → operand (value A r) → next A w → v ≡ with-rounds r w → Then operand next v
+  stops : {b f : ℕ} → operand (overflow b f) → Then operand next (overflow b f)
 
 -- two operands, "the left one finished before the right one is begun", and what is built of both lists
 abbrev pub Both : (List Zone → List Zone → Built) → (Value → Type 0) → (Value → Type 0) → Value → Type 0
-Both build left right = Then left (λ A r. Then right (λ B s v. v ≡ ended (build A B) (r + s)))
+Both build left right = Then left (λ A. Then right (λ B v. v ≡ ended (build A B)))
 
 -- "maximal runs, put in rising time, run s to e giving s ≤ start, end ≤ e, start < end"
 abbrev pub runZones : List Run → List MaybeZone
@@ -61,7 +46,7 @@ runZones = map (λ (r : Run). zone (run (r .start) (r .end)))
 pub record Letter (P : ℕ → Type 0) (from to : ℕ) (v : Value) : Type 0 where
   pub runs : List Run
   pub maximal : Runs P from to runs
-  pub built : v ≡ ended (insert-each (runZones runs) []) 0
+  pub built : v ≡ ended (insert-each (runZones runs) [])
 
 -- start = end = s
 abbrev pub momentZone : ℕ → Zone
@@ -74,7 +59,7 @@ momentZones = map (λ (s : ℕ). zone (momentZone s))
 pub record Moments (P Q : ℕ → Type 0) (from to : ℕ) (v : Value) : Type 0 where
   pub at : List ℕ
   pub events : Events P Q from to at
-  pub built : v ≡ ended (insert-each (momentZones at) []) 0
+  pub built : v ≡ ended (insert-each (momentZones at) [])
 
 -- the limit of a band on end − start; a missing hi is to − from, reached, which no stretch exceeds
 abbrev pub longest : ℕ → ℕ → Upper → Limit
@@ -85,12 +70,6 @@ longest from to (UpTo hi) = upperLimit hi
 abbrev pub rangeBand : ℕ → ℕ → Range → MaybeZone
 rangeBand from to r = bandOf from to (longest from to (r .hi)) (lowerLimit (r .lo))
 
--- the star of the operand's list A, after the operand's r rounds: "begin with the inner list", rounds, "Then the diagonal is put"
-pub record Closes (from to : ℕ) (A : List Zone) (r : ℕ) (v : Value) : Type 0 where
-  pub outcome : Closure
-  pub star : Stars A (diagonal from to) outcome
-  pub built : v ≡ starred outcome r
-
 -- "`|`: put the left zones, then the right ones, into an empty list"; "`&` and `.`: for each left zone, for each right zone, put the meet (for
 -- `.` the composition)"
 abbrev pub joinList : Join → List Zone → List Zone → Built
@@ -99,14 +78,14 @@ joinList Intersection = meets
 joinList Concatenation = compositions
 
 -- "`*`: begin with the inner list. A round .. Then the diagonal is put"; "`{lo,hi}`: put each zone's meet with the band"
-abbrev pub applied : ℕ → ℕ → Unary → List Zone → ℕ → Value → Type 0
-applied from to Star A r v = Closes from to A r v
-applied from to (Band range) A r v = v ≡ ended (banded (rangeBand from to range) A) r
+abbrev pub applied : ℕ → ℕ → Unary → List Zone → Value → Type 0
+applied from to Star A v = Stars A (diagonal from to) v
+applied from to (Band range) A v = v ≡ ended (banded (rangeBand from to range) A)
 
 -- the expression comes to the value
 abbrev pub Evaluates : (Shows : ℕ → Level → ℕ → Type 0) (from to : ℕ) → Expression → Value → Type 0
 -- "`_`: the diagonal, start = end"
-Evaluates Shows from to epsilon v = v ≡ ended (insert-each (zone (diagonal from to) ∷ []) []) 0
+Evaluates Shows from to epsilon v = v ≡ ended (insert-each (zone (diagonal from to) ∷ []) [])
 -- "a letter or `!`"
 Evaluates Shows from to (literal sign.High k) v = Letter (Shows k High) from to v
 Evaluates Shows from to (literal sign.Low k) v = Letter (Shows k Low) from to v
@@ -131,7 +110,7 @@ pub record RoundsOf (Shows : ℕ → Level → ℕ → Type 0) (from to : ℕ) (
   pub before : ℕ
   pub list : Evaluates Shows from to f (value inner before)
   pub outer : List Zone
-  pub star : Stars inner (diagonal from to) (finished k outer)
+  pub star : Stars inner (diagonal from to) (value outer k)
 
 -- the sum of a number of each: "the sum of these rounds over all `*` of the drill, each one written counted by itself, and 0 where there is none"
 pub data Sum (P : Expression → ℕ → Type 0) : List Expression → ℕ → Type 0 where

@@ -20,6 +20,8 @@ pub use Rattle.outcome.specs.declared.Outcome.the-variants.{
   WorkShort,
   Overflow,
   AnswerShort,
+  SheetForm,
+  RoundsSpent,
   Finished,
 }
 
@@ -29,7 +31,7 @@ pub use Rattle.outcome.specs.declared.Outcome.the-variants.{
 abbrev pub refusal : ℕ → Returned
 refusal n = record { number = n; zones = 0; rounds = 0 }
 
--- the table's numbers; an accepted call "returns 0, the number of zones and the total of rounds"
+-- the table's numbers, and those of the requests after it; an accepted call "returns 0, the number of zones and the total of rounds"
 abbrev pub returned : Outcome → Returned
 returned RecordingLength = refusal 1
 returned RecordingHead = refusal 2
@@ -42,6 +44,8 @@ returned DrillDepth = refusal 8
 returned WorkShort = refusal 9
 returned Overflow = refusal 10
 returned AnswerShort = refusal 11
+returned SheetForm = refusal 12
+returned RoundsSpent = refusal 13
 returned (Finished zones rounds) = record { number = 0; zones = zones; rounds = rounds }
 
 -- ---- what is left in the buffers
@@ -62,6 +66,9 @@ leaves DrillDepth = both
 leaves WorkShort = both
 leaves Overflow = answer-buffer
 leaves AnswerShort = answer-buffer
+-- 13 is "returned and left as by 10"; "Any other new number .. leaves both buffers as they were"
+leaves SheetForm = both
+leaves RoundsSpent = answer-buffer
 leaves (Finished zones rounds) = delivered
 
 -- ---- the front of an answer

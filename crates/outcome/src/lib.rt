@@ -1,11 +1,12 @@
-// What a call of the finder comes to: a finished list of zones or one of eleven refusals. `Outcome::returned` is its number, zones and rounds, and
+// What a call of the finder comes to: a finished list of zones or one of the refusals. `Outcome::returned` is its number, zones and rounds, and
 // `front` gives back the words of the listed zones. Nothing is known here of recordings and drills: which outcome a call has is in `finder`.
 //
 // specs/Outcome.antt has what each outcome returns and leaves, and the front of an answer.
 ghost use mathlib.Core.Path.{_≡_};
 ghost use Rattle.outcome.specs.Outcome.{frontOf, refusal, returned};
 
-// What a call comes to: a finished list, or the refusal whose cause holds and no earlier one does.
+// What a call comes to: a finished list, or the refusal whose cause holds and no earlier one does. Each call has its own list of causes, and
+// gives no other.
 pub enum Outcome {
     RecordingLength,
     RecordingHead,
@@ -18,6 +19,8 @@ pub enum Outcome {
     WorkShort,
     Overflow,
     AnswerShort,
+    SheetForm,
+    RoundsSpent,
     Finished { zones: usize, rounds: u64 },
 }
 
@@ -56,6 +59,8 @@ impl Outcome {
             Outcome::WorkShort => refusal(9),
             Outcome::Overflow => refusal(10),
             Outcome::AnswerShort => refusal(11),
+            Outcome::SheetForm => refusal(12),
+            Outcome::RoundsSpent => refusal(13),
             Outcome::Finished { zones, rounds } => Returned {
                 number: 0,
                 zones,

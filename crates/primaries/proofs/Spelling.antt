@@ -11,7 +11,8 @@ use Rattle.zone.specs.declared.MaybeZone.{MaybeZone}
 use Rattle.zone.specs.declared.MaybeZone.the-variants.{Zone as zone, Empty as empty}
 use Rattle.zone.specs.Zone.{Ranged, diagonal}
 use Rattle.zone.proofs.Laws.{proper-run, proper-diagonal, ranged, ranged-more}
-use Rattle.list.specs.Insert.{capacity, Built, listed, overflow, insert, after, insert-each}
+use Rattle.list.specs.Insert as puts
+use Rattle.list.specs.Insert.{capacity, Built, listed, insert, after, insert-each}
 use Rattle.list.specs.Slots.{slot-words, listAt, Kept}
 use Rattle.operators.specs.Listing.{Listing}
 use Rattle.pairs.proofs.Loops.{then, insert-each-append}
@@ -31,8 +32,8 @@ use Rattle.runs.proofs.Runs.{scanned-first}
 use Rattle.runs.proofs.Handed.{Taken, taken-none, taken-more, taken-all, shows-runs}
 use Rattle.runs.proofs.Events.{endsBefore, shows-events}
 use Rattle.meaning.specs.Lists.{Value, overflow, ended, Letter, momentZones, Moments}
-use Rattle.values.specs.Values.{Standing, EvaluatedAs}
-use Rattle.values.specs.declared.Evaluated.{Evaluated}
+use Rattle.purse.specs.Purse.{Standing, Overflowed, EvaluatedAs}
+use Rattle.purse.specs.declared.Evaluated.{Evaluated}
 use Rattle.values.proofs.Standings.{evaluated-map}
 use Rattle.primaries.specs.declared.Window.{Window}
 use Rattle.primaries.specs.Windows.{Looks}
@@ -58,11 +59,13 @@ module _ (bytes : List ℕ) (channel : ℕ) (level : Level) (mark : Mark) (from 
 
   module _ {cursor : Cursor} {base : ℕ} {ws₀ ws : List ℤ} {count : ℕ} (s : Spelt cursor base ws₀ ws count) where
     -- no run more: all of them
-    pub spelt-all : NextRun bytes channel level from to cursor None → Standing (Spelling mark (Shows bytes channel level) from to) ws base count 0
-    spelt-all n =
+    pub spelt-all : (told : ℕ) → NextRun bytes channel level from to cursor None → Standing (Spelling mark (Shows bytes channel level) from to) told ws base count told
+    spelt-all told n =
         record {
           list = listAt ws base count;
-          means = record { runs = s .runs; maximal = taken-all bytes channel level from to cursor (s .taken) n; built = ap (λ (b : Built). ended b 0) (sym (s .built)) };
+          rounds = 0;
+          means = record { runs = s .runs; maximal = taken-all bytes channel level from to cursor (s .taken) n; built = ap ended (sym (s .built)) };
+          spends = omega arith;
           holds = holds-same ws base count (s .few);
         }
 
@@ -103,20 +106,23 @@ module _ (bytes : List ℕ) (channel : ℕ) (level : Level) (mark : Mark) (from 
             }
 
         -- or would be one too many, whatever runs come after it
-        pub spelt-over : insert-each (m ∷ []) (listAt ws base count) ≡ overflow → Spelling mark (Shows bytes channel level) from to overflow
-        spelt-over e =
+        spelling-over : insert-each (m ∷ []) (listAt ws base count) ≡ puts.overflow → Spelling mark (Shows bytes channel level) from to (overflow 0 0)
+        spelling-over e =
             let all = shows-runs bytes channel level from to in
             let rest = scanned-first (taken-more bytes channel level from to cursor onward (s .taken) n) all in
             record {
               runs = (s .runs ++ (x ∷ [])) ++ rest .0;
               maximal = subst (Runs (Shows bytes channel level) from to) (rest .1) all;
               built =
-                  ap (λ (b : Built). ended b 0)
+                  ap ended
                   (sym
                   (ap (λ (ms : List MaybeZone). insert-each ms []) (map-append (markOf mark to) (s .runs ++ (x ∷ [])) (rest .0))
                   ∙ insert-each-append (map (markOf mark to) (s .runs ++ (x ∷ []))) (map (markOf mark to) (rest .0)) []
                   ∙ ap (λ (b : Built). then b (insert-each (map (markOf mark to) (rest .0)))) (more ∙ e)));
             }
+
+        pub spelt-over : (told : ℕ) → insert-each (m ∷ []) (listAt ws base count) ≡ puts.overflow → Overflowed (Spelling mark (Shows bytes channel level) from to) told told
+        spelt-over told e = record { overflowing = record { opened = 0; done = 0; means = spelling-over e; within = omega arith }; spends = omega arith }
 
 -- a mark that words have room for
 abbrev Small : MaybeZone → Type 0
@@ -158,17 +164,17 @@ spelling-moments bytes channel level from to s =
     record {
       at = endsBefore (min (to + 1) (ticks bytes)) (s .runs);
       events = shows-events bytes channel level from to (s .maximal);
-      built = s .built ∙ ap (λ (b : Built). ended b 0) (ends-built (min (to + 1) (ticks bytes)) (s .runs) []);
+      built = s .built ∙ ap ended (ends-built (min (to + 1) (ticks bytes)) (s .runs) []);
     }
 
-module _ {bytes : List ℕ} {window : Window} (looks : Looks bytes window) (channel : ℕ) (level : Level) (ws : List ℤ) (base : ℕ) (r : Evaluated) where
+module _ {bytes : List ℕ} {window : Window} (looks : Looks bytes window) (channel : ℕ) (level : Level) (told : ℕ) (ws : List ℤ) (base : ℕ) (r : Evaluated) where
   -- a letter
-  pub spells-letter : EvaluatedAs (Spelling Inside (Shows bytes channel level) (window .from) (window .to)) ws base r
-      → EvaluatedAs (Letter (Shows bytes channel level) (window .from) (window .to)) ws base r
-  spells-letter s = evaluated-map _ _ ws base (λ v p. spelling-letter p) r s
+  pub spells-letter : EvaluatedAs (Spelling Inside (Shows bytes channel level) (window .from) (window .to)) told ws base r
+      → EvaluatedAs (Letter (Shows bytes channel level) (window .from) (window .to)) told ws base r
+  spells-letter s = evaluated-map _ _ told ws base (λ v p. spelling-letter p) r s
 
   -- the events where the channel leaves the level
-  pub spells-moments : EvaluatedAs (Spelling End (Shows bytes channel level) (widened window .from) (widened window .to)) ws base r
-      → EvaluatedAs (Moments (Shows bytes channel level) (Shows bytes channel (other level)) (window .from) (window .to)) ws base r
+  pub spells-moments : EvaluatedAs (Spelling End (Shows bytes channel level) (widened window .from) (widened window .to)) told ws base r
+      → EvaluatedAs (Moments (Shows bytes channel level) (Shows bytes channel (other level)) (window .from) (window .to)) told ws base r
   spells-moments s =
-      evaluated-map _ _ ws base (λ v p. spelling-moments bytes channel level (window .from) (window .to) (rw (read-end (looks .read)) at p)) r s
+      evaluated-map _ _ told ws base (λ v p. spelling-moments bytes channel level (window .from) (window .to) (rw (read-end (looks .read)) at p)) r s

@@ -28,4 +28,4 @@ markOf End to r = cond (ltb (r .end) to) (zone (diagonal (r .end) (r .end))) emp
 pub record Spelling (mark : Mark) (P : ℕ → Type 0) (from to : ℕ) (v : Value) : Type 0 where
   pub runs : List Run
   pub maximal : Runs P from to runs
-  pub built : v ≡ ended (insert-each (map (markOf mark to) runs) []) 0
+  pub built : v ≡ ended (insert-each (map (markOf mark to) runs) [])

@@ -1,15 +1,15 @@
 // The lists of the parts of a drill that have no operands, in a slot of a lent work buffer: of `_`, and of a letter with its sign.
 //
-// The crate `meaning` says which list each has; `values` how a slot holds it.
+// The crate `meaning` says which list each has; `purse` how a slot holds it. None has a round: those told are left.
 use expression::Sign;
 use list::Inserted;
 use operators::Listed;
+use purse::Evaluated;
 use recording::Dimensions;
 use runs::Cursor;
 use runs::Level;
 use runs::Next;
 use runs::Run;
-use values::Evaluated;
 use zone::MaybeZone;
 use zone::Zone;
 ghost use mathlib.Core.Path.{_≡_};
@@ -26,7 +26,8 @@ ghost use Rattle.runs.specs.Levels.{Shows};
 ghost use Rattle.runs.specs.Search.{other};
 ghost use Rattle.expression.specs.Expression.{literal};
 ghost use Rattle.meaning.specs.Lists.{ended, Letter, Moments, Evaluates};
-ghost use Rattle.values.specs.Values.{EvaluatedAs, Ticks};
+ghost use Rattle.purse.specs.Purse.{EvaluatedAs};
+ghost use Rattle.values.specs.Values.{Ticks};
 ghost use Rattle.primaries.specs.Windows.{Looks};
 ghost use Rattle.primaries.specs.Spelling.{widened, markOf, Spelling};
 
@@ -51,15 +52,15 @@ fn put(work: &mut [i32], base: usize, count: usize, z: Zone) -> Listed
 }
 
 // `_`: the diagonal of ticks from..to, in the slot at `base`.
-pub fn point(work: &mut [i32], base: usize, from: u32, to: u32) -> Evaluated
+pub fn point(work: &mut [i32], base: usize, from: u32, to: u32, told: u64) -> Evaluated
     requires { ⌜ (Ticks from to) × (base + slot-words ≤ length (now work)) ⌝ }
-    ensures value { λ r. ⌜ EvaluatedAs (λ v. v ≡ ended (insert-each (zone (diagonal from to) ∷ []) []) 0) (now (work .exit)) base r ⌝ }
+    ensures value { λ r. ⌜ EvaluatedAs (λ v. v ≡ ended (insert-each (zone (diagonal from to) ∷ []) [])) told (now (work .exit)) base r ⌝ }
     ensures kept { λ _. ⌜ Kept base slot-words (now (work .entry)) (now (work .exit)) ⌝ }
 {
     let Inserted::Placed(count) = list::insert(work, base, 0, Zone::diagonal(from, to)) else {
-        return Evaluated::Overflow; // never: an empty list has room
+        return Evaluated::Overflow { left: told }; // never: an empty list has room
     };
-    Evaluated::Listed { count, rounds: 0 }
+    Evaluated::Listed { count, left: told }
 }
 
 // What is put for each run of ticks.
@@ -96,9 +97,10 @@ fn spell(
     mark: Mark,
     work: &mut [i32],
     base: usize,
+    told: u64,
 ) -> Evaluated
     requires { ⌜ (Looks (now bytes) window) × (base + slot-words ≤ length (now work)) ⌝ }
-    ensures value { λ r. ⌜ EvaluatedAs (Spelling mark (Shows (now (bytes .entry)) channel level) (window .from) (window .to)) (now (work .exit)) base r ⌝ }
+    ensures value { λ r. ⌜ EvaluatedAs (Spelling mark (Shows (now (bytes .entry)) channel level) (window .from) (window .to)) told (now (work .exit)) base r ⌝ }
     ensures kept { λ _. ⌜ Kept base slot-words (now (work .entry)) (now (work .exit)) ⌝ }
 {
     let mut cursor = Cursor { change: 0 };
@@ -113,14 +115,14 @@ fn spell(
             window.to,
             cursor,
         ) else {
-            return Evaluated::Listed { count, rounds: 0 };
+            return Evaluated::Listed { count, left: told };
         };
         cursor = onward;
         let MaybeZone::Zone(z) = mark_of(mark, run, window.to) else {
             continue;
         };
         let Listed::Count(n) = put(work, base, count, z) else {
-            return Evaluated::Overflow;
+            return Evaluated::Overflow { left: told };
         };
         count = n;
     }
@@ -158,12 +160,22 @@ fn letter(
     level: Level,
     work: &mut [i32],
     base: usize,
+    told: u64,
 ) -> Evaluated
     requires { ⌜ (Looks (now bytes) window) × (base + slot-words ≤ length (now work)) ⌝ }
-    ensures value { λ r. ⌜ EvaluatedAs (Letter (Shows (now (bytes .entry)) channel level) (window .from) (window .to)) (now (work .exit)) base r ⌝ }
+    ensures value { λ r. ⌜ EvaluatedAs (Letter (Shows (now (bytes .entry)) channel level) (window .from) (window .to)) told (now (work .exit)) base r ⌝ }
     ensures kept { λ _. ⌜ Kept base slot-words (now (work .entry)) (now (work .exit)) ⌝ }
 {
-    spell(bytes, window, channel, level, Mark::Inside, work, base)
+    spell(
+        bytes,
+        window,
+        channel,
+        level,
+        Mark::Inside,
+        work,
+        base,
+        told,
+    )
 }
 
 // `+` or `-` and a letter: the moments when its channel leaves the level, in the slot at `base`. They are the ends of the runs.
@@ -174,12 +186,22 @@ fn moments(
     was: Level,
     work: &mut [i32],
     base: usize,
+    told: u64,
 ) -> Evaluated
     requires { ⌜ (Looks (now bytes) window) × (base + slot-words ≤ length (now work)) ⌝ }
-    ensures value { λ r. ⌜ EvaluatedAs (Moments (Shows (now (bytes .entry)) channel was) (Shows (now (bytes .entry)) channel (other was)) (window .from) (window .to)) (now (work .exit)) base r ⌝ }
+    ensures value { λ r. ⌜ EvaluatedAs (Moments (Shows (now (bytes .entry)) channel was) (Shows (now (bytes .entry)) channel (other was)) (window .from) (window .to)) told (now (work .exit)) base r ⌝ }
     ensures kept { λ _. ⌜ Kept base slot-words (now (work .entry)) (now (work .exit)) ⌝ }
 {
-    spell(bytes, around(window), channel, was, Mark::End, work, base)
+    spell(
+        bytes,
+        around(window),
+        channel,
+        was,
+        Mark::End,
+        work,
+        base,
+        told,
+    )
 }
 
 // A letter with its sign, in the slot at `base`.
@@ -190,15 +212,16 @@ pub fn literal(
     sign: Sign,
     work: &mut [i32],
     base: usize,
+    told: u64,
 ) -> Evaluated
     requires { ⌜ (Looks (now bytes) window) × (base + slot-words ≤ length (now work)) ⌝ }
-    ensures value { λ r. ⌜ EvaluatedAs (Evaluates (Shows (now (bytes .entry))) (window .from) (window .to) (literal sign channel)) (now (work .exit)) base r ⌝ }
+    ensures value { λ r. ⌜ EvaluatedAs (Evaluates (Shows (now (bytes .entry))) (window .from) (window .to) (literal sign channel)) told (now (work .exit)) base r ⌝ }
     ensures kept { λ _. ⌜ Kept base slot-words (now (work .entry)) (now (work .exit)) ⌝ }
 {
     match sign {
-        Sign::High => letter(bytes, window, channel, Level::High, work, base),
-        Sign::Low => letter(bytes, window, channel, Level::Low, work, base),
-        Sign::Rise => moments(bytes, window, channel, Level::Low, work, base),
-        Sign::Fall => moments(bytes, window, channel, Level::High, work, base),
+        Sign::High => letter(bytes, window, channel, Level::High, work, base, told),
+        Sign::Low => letter(bytes, window, channel, Level::Low, work, base, told),
+        Sign::Rise => moments(bytes, window, channel, Level::Low, work, base, told),
+        Sign::Fall => moments(bytes, window, channel, Level::High, work, base, told),
     }
 }

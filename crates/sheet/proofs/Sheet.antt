@@ -26,6 +26,8 @@ use Rattle.outcome.specs.declared.Outcome.the-variants.{
   WorkShort,
   Overflow,
   AnswerShort,
+  SheetForm,
+  RoundsSpent,
   Finished,
 }
 use Rattle.outcome.specs.Outcome.{returned}
@@ -46,6 +48,8 @@ refusal-sheet DrillDepth n front = (refl, refl, omega arith)
 refusal-sheet WorkShort n front = (refl, refl, omega arith)
 refusal-sheet Overflow n front = (refl, refl, omega arith)
 refusal-sheet AnswerShort n front = (refl, refl, omega arith)
+refusal-sheet SheetForm n front = (refl, refl, omega arith)
+refusal-sheet RoundsSpent n front = (refl, refl, omega arith)
 refusal-sheet (Finished zones rounds) n front = absurd (omega arith)
 
 -- what a finished list comes to
@@ -54,11 +58,11 @@ unfolding sheet
 finished-sheet r front e = rw e
 
 module _ (r : Returned) (front : List ℤ) {out : List ℕ} where
-  pub told : {s out′ : List ℕ} {w : Written} → r .zones * 6 ≤ length front → sheet r front ≡ s → Appends s out (bytes 0) out′ w → (of-text w ≡ answer r front (length out)) × (out′ ≡ left r front out)
+  pub told : {out′ : List ℕ} {w : Written} → r .zones * 6 ≤ length front → Appends (sheet r front) out (bytes 0) out′ w → (of-text w ≡ answer r front (length out)) × (out′ ≡ left r front out)
   unfolding answer left
-  told h e a =
+  told h a =
       let g = whole _ a in
-      (rw (le-leb _ _ h, e) (ap of-text (g .1)), rw (le-leb _ _ h, e) (g .0))
+      (rw (le-leb _ _ h) (ap of-text (g .1)), rw (le-leb _ _ h) (g .0))
 
   pub told-short : length front < r .zones * 6 → (FrontShort ≡ answer r front (length out)) × (out ≡ left r front out)
   unfolding answer left

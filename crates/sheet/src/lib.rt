@@ -13,10 +13,9 @@ ghost use lib.Signed.{mag};
 ghost use lib.ListN.{length};
 ghost use Rattle.limit.specs.Limit.{value};
 ghost use Rattle.words.specs.Words.{zone-words};
-ghost use Rattle.text.specs.declared.Written.the-variants.{Bytes};
 ghost use Rattle.text.specs.Buffer.{Appends};
 ghost use Rattle.outcome.specs.Outcome.{returned};
-ghost use Rattle.sheet.specs.Sheet.{bracket, range, line, lines, finished, refused};
+ghost use Rattle.sheet.specs.Sheet.{bracket, range, line, lines, finished, refused, sheet};
 ghost use Rattle.sheet.specs.Buffer.{of-text, answer, left};
 
 // Room for the sheet of any call.
@@ -105,11 +104,11 @@ fn lines(out: &mut [u8], w: Written, front: &[i32], zones: usize) -> Written
     so_far
 }
 
-fn finished(out: &mut [u8], zones: usize, rounds: u64, front: &[i32]) -> Written
+fn finished(out: &mut [u8], w: Written, zones: usize, rounds: u64, front: &[i32]) -> Written
     requires { ⌜ zones * zone-words ≤ length (now front) ⌝ }
-    ensures { λ r. ⌜ Appends (finished zones rounds (now (front .entry))) (now (out .entry)) (Bytes 0) (now (out .exit)) r ⌝ }
+    ensures { λ r. ⌜ Appends (finished zones rounds (now (front .entry))) (now (out .entry)) w (now (out .exit)) r ⌝ }
 {
-    let w1 = text::literal(out, Written::Bytes(0), b"zones ");
+    let w1 = text::literal(out, w, b"zones ");
     let w2 = text::decimal(out, w1, zones as u64);
     let w3 = text::literal(out, w2, b" rounds ");
     let w4 = text::decimal(out, w3, rounds);
@@ -117,12 +116,24 @@ fn finished(out: &mut [u8], zones: usize, rounds: u64, front: &[i32]) -> Written
     lines(out, w5, front, zones)
 }
 
-fn refused(out: &mut [u8], n: u64) -> Written
-    ensures { λ r. ⌜ Appends (refused n) (now (out .entry)) (Bytes 0) (now (out .exit)) r ⌝ }
+fn refused(out: &mut [u8], w: Written, n: u64) -> Written
+    ensures { λ r. ⌜ Appends (refused n) (now (out .entry)) w (now (out .exit)) r ⌝ }
 {
-    let w1 = text::literal(out, Written::Bytes(0), b"refused ");
+    let w1 = text::literal(out, w, b"refused ");
     let w2 = text::decimal(out, w1, n);
     text::put(out, w2, b'\n')
+}
+
+// Puts the sheet of an outcome, whose zones stand in `front`, behind the text so far.
+pub fn append(out: &mut [u8], w: Written, outcome: Outcome, front: &[i32]) -> Written
+    requires { ⌜ returned outcome .zones * zone-words ≤ length (now front) ⌝ }
+    ensures { λ r. ⌜ Appends (sheet (returned outcome) (now (front .entry))) (now (out .entry)) w (now (out .exit)) r ⌝ }
+{
+    let told = outcome.returned();
+    if 0 < told.number {
+        return refused(out, w, told.number as u64);
+    }
+    finished(out, w, told.zones, told.rounds, front)
 }
 
 // What is answered of a text is answered of the sheet that it is.
@@ -142,11 +153,8 @@ pub fn text(outcome: Outcome, front: &[i32], out: &mut [u8]) -> Printed
     ensures out { λ _. ⌜ now (out .exit) ≡ left (returned outcome) (now (front .entry)) (now (out .entry)) ⌝ }
 {
     let told = outcome.returned();
-    if 0 < told.number {
-        return of_text(refused(out, told.number as u64));
-    }
     if front.len() / ZONE_WORDS < told.zones {
         return Printed::FrontShort;
     }
-    of_text(finished(out, told.zones, told.rounds, front))
+    of_text(append(out, Written::Bytes(0), outcome, front))
 }

@@ -14,13 +14,14 @@ use Rattle.zone.specs.declared.MaybeZone.the-variants.{Zone as zone}
 use Rattle.zone.specs.Zone.{contains, compose, Tight}
 use Rattle.zone.proofs.Lengths.{Extends, span}
 use Rattle.zone.proofs.Laws.{compose-mono, extends-refl, extends-step, span-longer, span-some, span-adds, span-bound, same-zone?}
-use Rattle.list.specs.Insert.{Built, listed, overflow, insert-each}
+use Rattle.list.specs.Insert as puts
+use Rattle.list.specs.Insert.{Built, listed, insert-each}
 use Rattle.pairs.specs.declared.Operation.the-variants.{Compose}
-use Rattle.star.specs.Star.{round, Closure, finished, overflow, one-more, Rounds, Rounds.last, Rounds.more, Rounds.overflows, Star, Star.closed, Star.diagonal-overflows, Star.round-overflows}
+use Rattle.star.specs.Star.{round, Value, value, overflow, begun, with-rounds, Rounds, Rounds.last, Rounds.more, Rounds.overflows, Star, Star.closed, Star.diagonal-overflows, Star.round-overflows}
 use Rattle.list.specs.Members.{AllProper, Covered}
 use Rattle.list.proofs.Coverage.{covered-within, puts-fresh}
 use Rattle.pairs.proofs.Pairs.{pairs-mem}
-use Rattle.star.proofs.Rounds.{After, After.begin, After.turn, round-puts, rounds-end}
+use Rattle.star.proofs.Rounds.{After, After.begin, After.turn, round-puts, rounds-end, rounds-overflow}
 use Rattle.star.proofs.Composed.{Composed, Composed.single, Composed.extend, Reached, composed-proper, after-reached}
 
 -- ---- a list less one zone
@@ -158,34 +159,44 @@ module _ {from to : ℕ} {inner : List Zone} (proper : AllProper from to inner) 
     after-bound (turn a e n) = changed-bound a e n
 
     -- rounds that finish are at most n + (to − from), the last included
-    pub rounds-bound : {r : ℕ} {F : List Zone} → Rounds inner inner (finished r F) → r ≤ length inner + (to - from)
+    pub rounds-bound : {r : ℕ} {F : List Zone} → Rounds inner inner (value F r) → r ≤ length inner + (to - from)
     rounds-bound t = let b = rounds-end t in let h = after-bound (b .1) in let q = b .2 in omega arith
+
+    -- and so are rounds that are begun, also up to one that overflows
+    pub star-begun : {diagonal : Zone} {v : Value} → Star inner diagonal v → begun v ≤ length inner + (to - from)
+    star-begun (closed t e) = rounds-bound t
+    star-begun (diagonal-overflows t e) = rounds-bound t
+    star-begun (round-overflows t) = let b = rounds-overflow t in let h = after-bound (b .2) in let q = b .3 in omega arith
 
     -- ---- so the rounds end
 
-    exists : (left : ℕ) {k : ℕ} {L : List Zone} → After inner k L → length inner + (to - from) ≤ k + left → (o : Closure) × Rounds inner L o
+    exists : (left : ℕ) {k : ℕ} {L : List Zone} → After inner k L → length inner + (to - from) ≤ k + left → (v : Value) × Rounds inner L v
     exists zero a h = absurd (let b = after-bound a in omega arith)
     exists (suc left) {L = L} a h = go (round inner L) refl (λ M e n. exists left (turn a e n) (omega arith))
       where
-        go : (b : Built) → round inner L ≡ b → ((M : List Zone) → round inner L ≡ listed M → ¬ (M ≡ L) → (o : Closure) × Rounds inner M o) → (o : Closure) × Rounds inner L o
-        go overflow e below = (overflow, overflows e)
+        go : (b : Built) → round inner L ≡ b → ((M : List Zone) → round inner L ≡ listed M → ¬ (M ≡ L) → (v : Value) × Rounds inner M v) → (v : Value) × Rounds inner L v
+        go puts.overflow e below = (overflow 1 0, overflows e)
         go (listed M) e below = cases (List-discrete same-zone? M L)
           where
-            cases : Dec (M ≡ L) → (o : Closure) × Rounds inner L o
-            cases (yes q) = (finished 1 L, last (e ∙ ap listed q))
-            cases (no n) = let t = below M e n in (one-more (t .0), more e n (t .1))
+            cases : Dec (M ≡ L) → (v : Value) × Rounds inner L v
+            cases (yes q) = (value L 1, last (e ∙ ap listed q))
+            cases (no n) = let t = below M e n in (with-rounds 1 (t .0), more e n (t .1))
+
+    -- from the list after any of them on
+    pub after-exists : {k : ℕ} {L : List Zone} → After inner k L → (v : Value) × Rounds inner L v
+    after-exists a = exists (length inner + (to - from)) a (omega arith)
 
     -- n + (to − from) rounds are enough
-    pub rounds-exist : (o : Closure) × Rounds inner inner o
-    rounds-exist = exists (length inner + (to - from)) begin (omega arith)
+    pub rounds-exist : (v : Value) × Rounds inner inner v
+    rounds-exist = after-exists begin
 
-    pub star-exists : (diagonal : Zone) → (o : Closure) × Star inner diagonal o
+    pub star-exists : (diagonal : Zone) → (v : Value) × Star inner diagonal v
     star-exists diagonal = go (rounds-exist .0) (rounds-exist .1)
       where
-        put : {r : ℕ} {F : List Zone} → Rounds inner inner (finished r F) → (b : Built) → insert-each (zone diagonal ∷ []) F ≡ b → (o : Closure) × Star inner diagonal o
-        put {r} t (listed G) e = (finished r G, closed t e)
-        put t overflow e = (overflow, diagonal-overflows t e)
+        put : {r : ℕ} {F : List Zone} → Rounds inner inner (value F r) → (b : Built) → insert-each (zone diagonal ∷ []) F ≡ b → (v : Value) × Star inner diagonal v
+        put {r} t (listed G) e = (value G r, closed t e)
+        put {r} t puts.overflow e = (overflow r r, diagonal-overflows t e)
 
-        go : (o : Closure) → Rounds inner inner o → (o : Closure) × Star inner diagonal o
-        go (finished r F) t = put t (insert-each (zone diagonal ∷ []) F) refl
-        go overflow t = (overflow, round-overflows t)
+        go : (v : Value) → Rounds inner inner v → (v : Value) × Star inner diagonal v
+        go (value F r) t = put t (insert-each (zone diagonal ∷ []) F) refl
+        go (overflow b f) t = (overflow b f, round-overflows t)

@@ -1,23 +1,24 @@
 -- What the loops have put together, as the answers of a round and of a star.
-use mathlib.Core.Path.{_≡_, sym, ap, subst, _∙_}
+use mathlib.Core.Path.{_≡_, refl, sym, ap, subst, _∙_}
 use mathlib.Core.Bool.{Bool, true, false}
 use mathlib.Core.Logic.{_⊎_, inl, inr}
 use mathlib.Core.List.{List, [], _∷_}
-use Prim.Native.Nat.{ℕ, _+_, _*_, _≤_}
+use Prim.Native.Nat.{ℕ, _+_, _*_, _≤_, _<_}
 use native.Mathlib.Omega.{arith}
 use lib.IntN.{ℤ}
 use Rattle.zone.specs.declared.Zone.{Zone}
 use Rattle.zone.specs.declared.MaybeZone.the-variants.{Zone as zone}
-use Rattle.list.specs.Insert.{listed, overflow, insert-each}
+use Rattle.list.specs.Insert as puts
+use Rattle.list.specs.Insert.{Built, listed, insert-each}
 use Rattle.pairs.specs.declared.Operation.the-variants.{Compose}
 use Rattle.pairs.specs.Pairs.{pairs}
-use Rattle.star.specs.Star.{Closure, finished, overflow, Rounds, Star, closed, diagonal-overflows, round}
-use Rattle.list.specs.Slots.{listAt, Free, Holds, Kept, Copied, Disjoint}
-use Rattle.star.specs.Closing.{Closing}
+use Rattle.purse.specs.Purse.{Standing, Overflowed, Exceeding}
+use Rattle.star.specs.Star.{Value, value, overflow, begun, Rounds, Star, closed, diagonal-overflows, round-overflows, round}
+use Rattle.list.specs.Slots.{listAt, Free, Kept, Copied, Disjoint}
 use Rattle.pairs.specs.Operands.{Operands}
-use Rattle.operators.specs.Listing.{Workspace}
+use Rattle.operators.specs.Listing.{Workspace, Listing}
 use Rattle.pairs.specs.Growth.{Alters, Growth}
-use Rattle.star.specs.Steps.{Changes}
+use Rattle.star.specs.Steps.{Changes, Ending}
 use Rattle.list.proofs.Slots.{listAt-copied, list-there, still-source}
 use Rattle.pairs.proofs.Loops.{alters-changed}
 use Rattle.pairs.proofs.Growing.{still-supply}
@@ -44,7 +45,7 @@ module _ {ws us : List ℤ} {list n inner m copy : ℕ} (o : Operands ws list n 
   unfolding round
   round-is = rw (same-list, same-inner, same-copy)
 
-  pub round-overflow : {P : Type 0} → (insert-each (pairs Compose (listAt us list n) (listAt us inner m)) (listAt us copy n) ≡ overflow) × P → (round (listAt ws inner m) (listAt ws list n) ≡ overflow) × P
+  pub round-overflow : {P : Type 0} → (insert-each (pairs Compose (listAt us list n) (listAt us inner m)) (listAt us copy n) ≡ puts.overflow) × P → (round (listAt ws inner m) (listAt ws list n) ≡ puts.overflow) × P
   round-overflow e = (sym round-is ∙ e .0, e .1)
 
   module _ {vs : List ℤ} {k : ℕ} {changed : Bool} (g : Growth (insert-each (pairs Compose (listAt us list n) (listAt us inner m)) (listAt us copy n)) false (listAt us copy n) vs copy k changed) where
@@ -80,9 +81,12 @@ module _ {ws us : List ℤ} {inner m target scratch : ℕ} (work : Workspace ws 
   pub begun-list : listAt us target m ≡ listAt us inner m
   begun-list = listAt-copied m c ∙ sym begun-inner
 
-  -- the rounds from the copy are those of the inner list
-  pub begun-rounds : {o : Closure} → Rounds (listAt us inner m) (listAt us inner m) o → Rounds (listAt ws inner m) (listAt ws inner m) o
-  begun-rounds {o} r = subst (λ (I : List Zone). Rounds I I o) begun-inner r
+  -- what all rounds from the copy come to is what those of the inner list come to
+  pub begun-rounds : (P : (Value → Type 0) → Type 0) → P (Rounds (listAt us inner m) (listAt us inner m)) → P (Rounds (listAt ws inner m) (listAt ws inner m))
+  begun-rounds P = subst (λ (I : List Zone). P (Rounds I I)) begun-inner
+
+  pub begun-ending : {told : ℕ} {vs : List ℤ} {at n left : ℕ} → Ending (listAt us inner m) told target scratch vs at n left → Ending (listAt ws inner m) told target scratch vs at n left
+  begun-ending {told} {vs} {at} {n} {left} w = record { standing = begun-rounds (λ R. Standing R told vs at n left) (w .standing); place = w .place; first-free = w .first-free; second-free = w .second-free }
 
 -- the last list stands in one of the two slots
 pub ending-room : {at a b size : ℕ} → (at ≡ a) ⊎ (at ≡ b) → a + 768 ≤ size → b + 768 ≤ size → at + 768 ≤ size
@@ -94,9 +98,50 @@ ending-apart (inl e) d = inl e
 ending-apart (inr e) (inl h) = inr (inr (omega arith))
 ending-apart (inr e) (inr h) = inr (inl (omega arith))
 
-module _ {inner : List Zone} (diag : Zone) {F : List Zone} {made : ℕ} (r : Rounds inner inner (finished made F)) (us : List ℤ) (target n : ℕ) (h : Holds us target n F) where
-  pub star-overflow : {P : Type 0} → (insert-each (zone diag ∷ []) (listAt us target n) ≡ overflow) × P → Star inner diag overflow × P
-  star-overflow e = (diagonal-overflows r (subst (λ (L : List Zone). insert-each (zone diag ∷ []) L ≡ overflow) (h .zones) (e .0)), e .1)
+-- the diagonal put into the last list where that was brought
+module _ (diag : Zone) {L M : List Zone} (e : M ≡ L) where
+  pub put-overflow : {P : Type 0} → (insert-each (zone diag ∷ []) M ≡ puts.overflow) × P → (insert-each (zone diag ∷ []) L ≡ puts.overflow) × P
+  put-overflow h = (subst (λ (K : List Zone). insert-each (zone diag ∷ []) K ≡ puts.overflow) e (h .0), h .1)
 
-  pub star-closed : {vs : List ℤ} {k : ℕ} {before changed : Bool} → Growth (insert-each (zone diag ∷ []) (listAt us target n)) before (listAt us target n) vs target k changed → Closing inner diag vs target k made
-  star-closed w = record { list = w .list; value = closed r (subst (λ (L : List Zone). insert-each (zone diag ∷ []) L ≡ listed (w .list)) (h .zones) (w .value)); holds = w .holds }
+  pub put-listing : {before changed : Bool} {vs : List ℤ} {target n : ℕ} → Growth (insert-each (zone diag ∷ []) M) before M vs target n changed → Listing (insert-each (zone diag ∷ []) L) vs target n
+  put-listing g = record { list = g .list; value = subst (λ (K : List Zone). insert-each (zone diag ∷ []) K ≡ listed (g .list)) e (g .value); holds = g .holds }
+
+module _ {inner : List Zone} (diag : Zone) {told first second : ℕ} {us : List ℤ} {at n left : ℕ} (w : Ending inner told first second us at n left) where
+  pub star-overflow : {P : Type 0} → (insert-each (zone diag ∷ []) (listAt us at n) ≡ puts.overflow) × P → Overflowed (Star inner diag) told left
+  star-overflow (e, _) =
+      let s = w .standing .spends in
+      record {
+        overflowing = record {
+          opened = w .standing .rounds;
+          done = w .standing .rounds;
+          means = diagonal-overflows (w .standing .means) (subst (λ (L : List Zone). insert-each (zone diag ∷ []) L ≡ puts.overflow) (w .standing .holds .zones) e);
+          within = omega arith;
+        };
+        spends = s;
+      }
+
+  pub star-closed : {vs : List ℤ} {target k : ℕ} → Listing (insert-each (zone diag ∷ []) (listAt us at n)) vs target k → Standing (Star inner diag) told vs target k left
+  star-closed l =
+      record {
+        list = l .list;
+        rounds = w .standing .rounds;
+        means = closed (w .standing .means) (subst (λ (L : List Zone). insert-each (zone diag ∷ []) L ≡ listed (l .list)) (w .standing .holds .zones) (l .value));
+        spends = w .standing .spends;
+        holds = l .holds;
+      }
+
+-- rounds that overflow, and rounds beyond those told, are the star's
+pub rounds-overflow : {inner : List Zone} {diag : Zone} {told left : ℕ} → Overflowed (Rounds inner inner) told left → Overflowed (Star inner diag) told left
+rounds-overflow b =
+    let o = b .overflowing in record { overflowing = record { opened = o .opened; done = o .done; means = round-overflows (o .means); within = o .within }; spends = b .spends }
+
+pub rounds-exceed : {inner : List Zone} (diag : Zone) {told : ℕ} → Exceeding (Rounds inner inner) told → Exceeding (Star inner diag) told
+rounds-exceed {inner} diag {told} x = go (x .whole) (x .means) (x .beyond)
+  where
+    put : {r : ℕ} {F : List Zone} → Rounds inner inner (value F r) → told < r → (b : Built) → insert-each (zone diag ∷ []) F ≡ b → Exceeding (Star inner diag) told
+    put {r} t h (listed G) e = record { whole = value G r; means = closed t e; beyond = h }
+    put {r} t h puts.overflow e = record { whole = overflow r r; means = diagonal-overflows t e; beyond = h }
+
+    go : (v : Value) → Rounds inner inner v → told < begun v → Exceeding (Star inner diag) told
+    go (value F r) t h = put t h (insert-each (zone diag ∷ []) F) refl
+    go (overflow b f) t h = record { whole = overflow b f; means = round-overflows t; beyond = h }

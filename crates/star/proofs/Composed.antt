@@ -10,7 +10,7 @@ use Rattle.zone.specs.Zone.{compose, Proper}
 use Rattle.zone.proofs.Laws.{contains-refl, compose-mono, proper-compose}
 use Rattle.pairs.specs.Pairs.{pairs}
 use Rattle.pairs.specs.declared.Operation.the-variants.{Compose}
-use Rattle.star.specs.Star.{finished, Rounds}
+use Rattle.star.specs.Star.{value, Rounds}
 use Rattle.list.specs.Members.{AllProper, Covered}
 use Rattle.list.proofs.Coverage.{Puts, covered-within, puts-mem, puts-keep, puts-new}
 use Rattle.pairs.proofs.Pairs.{pairs-mem, mem-pairs}
@@ -74,7 +74,7 @@ module _ {from to : ℕ} {inner : List Zone} (proper : AllProper from to inner) 
 
   -- ---- the last list: compositions of at most r inner zones, r the rounds, and it covers every composition
 
-  module _ {r : ℕ} {F : List Zone} (t : Rounds inner inner (finished r F)) where
+  module _ {r : ℕ} {F : List Zone} (t : Rounds inner inner (value F r)) where
     last-proper : AllProper from to F
     last-proper = after-proper proper (rounds-end t .1)
 

@@ -9,7 +9,7 @@ use Rattle.zone.specs.declared.MaybeZone.the-variants.{Zone as zone}
 use Rattle.zone.specs.Zone.{In}
 use Rattle.zone.proofs.Laws.{compose-cut, compose-glue, in-same}
 use Rattle.limit.proofs.Times.{≈-refl, ≈-sym}
-use Rattle.star.specs.Star.{finished, Star}
+use Rattle.star.specs.Star.{value, Star}
 use Rattle.star.specs.Pieces.{Pieces, Pieces.none, Pieces.more}
 use Rattle.list.specs.Members.{Lies, AllProper}
 use Rattle.list.proofs.Coverage.{puts, puts-lies, covered-lies}
@@ -40,7 +40,7 @@ module _ {from to : ℕ} {inner : List Zone} (proper : AllProper from to inner) 
           let g = compose-glue (composed-proper proper (c .2) .tight) (proper (l .in-zone) (l .among) .tight) x t y (c .3) (l .member) in
           (suc (c .0), g .0, extend (c .2) (l .among) (g .1), g .2)
 
-  module _ {diagonal : Zone} {r : ℕ} {G : List Zone} (s : Star inner diagonal (finished r G)) (x y : Time) where
+  module _ {diagonal : Zone} {r : ℕ} {G : List Zone} (s : Star inner diagonal (value G r)) (x y : Time) where
     -- in a star's list lie the stretches of the rounds' last list and of the diagonal
     star-parts : Lies G x y ↔ (Lies (star-rounds s .0) x y ⊎ In diagonal x y)
     star-parts = let b = star-rounds s in Iff·trans (puts-lies (puts (zone diagonal ∷ []) (b .0) (b .2)) x y) (⊎-map (λ l. l) (offered-one diagonal x y .0), ⊎-map (λ l. l) (offered-one diagonal x y .1))

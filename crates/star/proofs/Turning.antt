@@ -9,15 +9,16 @@ use lib.IntN.{ℤ}
 use Rattle.zone.specs.declared.Zone.{Zone}
 use Rattle.words.specs.Words.{word}
 use Rattle.list.specs.Insert.{listed, overflow}
-use Rattle.star.specs.Star.{finished, overflow, Rounds, round}
+use Rattle.purse.specs.Purse.{Exceeding}
+use Rattle.star.specs.Star.{value, Rounds, round}
 use Rattle.list.specs.Slots.{listAt, Free, Slot, Holds, Kept, KeptBoth, Disjoint, Sound}
 use Rattle.pairs.specs.Operands.{Operands}
 use Rattle.operators.specs.Listing.{Workspace}
 use Rattle.star.specs.Steps.{Changes, Ending, EndsAs}
-use Rattle.star.specs.declared.Ended.the-variants.{Overflow}
-use Rattle.star.proofs.Rounds.{After, After.begin as begin, After.turn as turn, after-proper, after-last, after-overflow}
-use Rattle.star.proofs.Bound.{after-bound}
-use Rattle.list.proofs.Slots.{listAt-length, listAt-same, list-there}
+use Rattle.star.specs.declared.Ended.the-variants.{Overflow, Spent}
+use Rattle.star.proofs.Rounds.{After, After.begin as begin, After.turn as turn, after-proper, after-last, after-overflow, after-more}
+use Rattle.star.proofs.Bound.{after-exists}
+use Rattle.list.proofs.Slots.{listAt-same, list-there}
 use Rattle.list.proofs.Puts.{holds-same}
 use Rattle.list.proofs.Copies.{kept-neither, disjoint-swap}
 
@@ -83,10 +84,6 @@ module _ {inner m first second : ℕ} {ws₀ : List ℤ} (work : Workspace ws₀
         copy-slot : Slot ws copy 0
         copy-slot = record { few = omega arith; room = at-list (λ k j. Free ws j) (t .place) second-free first-free }
 
-    -- the loop's measure, by the bound on rounds and nothing else
-    pub turn-bound : suc made ≤ m + 1_000_000
-    turn-bound = let b = after-bound (work .list .sound) (omega arith) (t .after) in omega (arith, listAt-length ws₀ inner m)
-
     pub turn-kept : {vs : List ℤ} → Kept copy 768 ws vs → KeptBoth first second ws₀ vs
     turn-kept {vs} k =
         record {
@@ -119,17 +116,37 @@ module _ {inner m first second : ℕ} {ws₀ : List ℤ} (work : Workspace ws₀
         }
 
     -- the last round
-    pub turn-end : {vs : List ℤ} → (round (listAt ws inner m) (listAt ws list n) ≡ listed (listAt ws list n)) × Free vs copy → Kept copy 768 ws vs → Ending (listAt ws₀ inner m) first second vs list n (made + 1)
-    turn-end {vs} (e, _) f =
+    pub turn-end : {vs : List ℤ} {told left : ℕ} → (made + 1) + left ≡ told → (round (listAt ws inner m) (listAt ws list n) ≡ listed (listAt ws list n)) × Free vs copy → Kept copy 768 ws vs → Ending (listAt ws₀ inner m) told first second vs list n left
+    turn-end {vs} q (e, _) f =
         record {
-          list = listAt ws list n;
-          value = subst (λ (j : ℕ). Rounds (listAt ws₀ inner m) (listAt ws₀ inner m) (finished j (listAt ws list n))) (sym (add-one made)) (after-last (t .after) (at-home (λ I. round I (listAt ws list n) ≡ listed (listAt ws list n)) e));
-          holds = subst (Holds vs list n) (list-there list n f turn-apart (t .few)) (holds-same vs list n (t .few));
+          standing =
+              record {
+                list = listAt ws list n;
+                rounds = made + 1;
+                means = subst (λ (j : ℕ). Rounds (listAt ws₀ inner m) (listAt ws₀ inner m) (value (listAt ws list n) j)) (sym (add-one made)) (after-last (t .after) (at-home (λ I. round I (listAt ws list n) ≡ listed (listAt ws list n)) e));
+                spends = q;
+                holds = subst (Holds vs list n) (list-there list n f turn-apart (t .few)) (holds-same vs list n (t .few));
+              };
           place = at-list (λ l c. (l ≡ first) ⊎ (l ≡ second)) (t .place) (inl refl) (inr refl);
           first-free = turn-frees f .0;
           second-free = turn-frees f .1;
         }
 
-    -- a put of this round would leave 129 zones
-    pub turn-overflow : {vs : List ℤ} → (round (listAt ws inner m) (listAt ws list n) ≡ overflow) × Free vs copy → Kept copy 768 ws vs → EndsAs (listAt ws₀ inner m) first second vs Overflow
-    turn-overflow (e, _) f = (after-overflow (t .after) (at-home (λ I. round I (listAt ws list n) ≡ overflow) e), turn-frees f .0, turn-frees f .1)
+    -- a put of this round would leave 129 zones: the round is begun, and not finished
+    pub turn-overflow : {vs : List ℤ} {told left : ℕ} → made + left ≡ told → 0 < left → (round (listAt ws inner m) (listAt ws list n) ≡ overflow) × Free vs copy → Kept copy 768 ws vs → EndsAs (listAt ws₀ inner m) told first second vs (Overflow left)
+    turn-overflow q s (e, _) f = (
+      record {
+        overflowing = record { opened = suc made; done = made; means = after-overflow (t .after) (at-home (λ I. round I (listAt ws list n) ≡ overflow) e); within = omega arith };
+        spends = q;
+      },
+      turn-frees f .0,
+      turn-frees f .1,
+    )
+
+    -- all rounds told are made, and there is one more to be begun
+    pub turn-stop : {told : ℕ} → made ≡ told → EndsAs (listAt ws₀ inner m) told first second ws Spent
+    turn-stop q = (
+      subst (Exceeding (Rounds (listAt ws₀ inner m) (listAt ws₀ inner m))) q (after-more (t .after) (after-exists (work .list .sound) (omega arith) (t .after) .1)),
+      first-free,
+      second-free,
+    )

@@ -1,4 +1,3 @@
 pub mod Pieces
 pub mod Star
-pub mod Closing
 pub mod Steps

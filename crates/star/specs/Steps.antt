@@ -6,12 +6,13 @@ use Prim.Native.Nat.{ℕ}
 use lib.IntN.{ℤ}
 use Rattle.zone.specs.declared.Zone.{Zone}
 use Rattle.list.specs.Insert.{listed, overflow}
-use Rattle.star.specs.Star.{finished, overflow, Rounds, round}
+use Rattle.purse.specs.Purse.{Standing, Overflowed, Exceeding}
+use Rattle.star.specs.Star.{Rounds, round}
 use Rattle.list.specs.Slots.{Free, Holds}
 use Rattle.star.specs.declared.Round.{Round}
 use Rattle.star.specs.declared.Round.the-variants.{Same, Changed, Overflow}
 use Rattle.star.specs.declared.Ended.{Ended}
-use Rattle.star.specs.declared.Ended.the-variants.{EndedAt, Overflow}
+use Rattle.star.specs.declared.Ended.the-variants.{EndedAt, Overflow, Spent}
 
 -- one round from the list L, into the slot at `copy`
 pub record Changes (inner L : List Zone) (vs : List ℤ) (copy n : ℕ) : Type 0 where
@@ -27,15 +28,14 @@ RoundAs inner L vs copy (Changed n) = Changes inner L vs copy n
 RoundAs inner L vs copy Overflow = (round inner L ≡ overflow) × Free vs copy
 
 -- all rounds: the last list stands at `at`, one of the two slots, and the other is free
-pub record Ending (inner : List Zone) (first second : ℕ) (vs : List ℤ) (at n rounds : ℕ) : Type 0 where
-  pub list : List Zone
-  pub value : Rounds inner inner (finished rounds list)
-  pub holds : Holds vs at n list
+pub record Ending (inner : List Zone) (told first second : ℕ) (vs : List ℤ) (at n left : ℕ) : Type 0 where
+  pub standing : Standing (Rounds inner inner) told vs at n left
   pub place : (at ≡ first) ⊎ (at ≡ second)
   pub first-free : Free vs first
   pub second-free : Free vs second
 
--- .. or one of them overflows, and both are free
-abbrev pub EndsAs : List Zone → ℕ → ℕ → List ℤ → Ended → Type 0
-EndsAs inner first second vs (EndedAt at n rounds) = Ending inner first second vs at n rounds
-EndsAs inner first second vs Overflow = Rounds inner inner overflow × Free vs first × Free vs second
+-- .. or one of them overflows, or there is one more to be begun than told; then both are free
+abbrev pub EndsAs : List Zone → ℕ → ℕ → ℕ → List ℤ → Ended → Type 0
+EndsAs inner told first second vs (EndedAt at n left) = Ending inner told first second vs at n left
+EndsAs inner told first second vs (Overflow left) = Overflowed (Rounds inner inner) told left × Free vs first × Free vs second
+EndsAs inner told first second vs Spent = Exceeding (Rounds inner inner) told × Free vs first × Free vs second

@@ -1,24 +1,25 @@
-// The rounds of a star. They end, by the bound n + d on their number (proofs/Bound.antt).
+// The rounds of a star. They end, by the bound n + d on their number (proofs/Bound.antt), or with the rounds told.
 //
 // specs/Star.antt says what the rounds come to, over plain lists of zones.
+use operators::Listed;
 use pairs::Grown;
 use pairs::Operation;
+use purse::Evaluated;
 use words::ZONE_WORDS;
 use zone::Zone;
 ghost use mathlib.Core.Path.{_≡_};
+ghost use mathlib.Core.Logic.{_⊎_};
+ghost use mathlib.Core.List.{[], _∷_};
 ghost use Prim.Native.Nat.{_≤_};
 ghost use Rattle.zone.specs.Zone.{diagonal};
-ghost use Rattle.list.specs.Slots.{slot-words, listAt, Free, Kept, KeptBoth};
+ghost use Rattle.zone.specs.declared.MaybeZone.the-variants.{Zone as zone};
+ghost use Rattle.list.specs.Insert.{capacity, insert-each};
+ghost use Rattle.list.specs.Slots.{slot-words, listAt, Free, Kept, KeptBoth, Disjoint};
 ghost use Rattle.pairs.specs.Operands.{Operands};
-ghost use Rattle.operators.specs.Listing.{Workspace};
-ghost use Rattle.star.specs.Closing.{StarAs};
+ghost use Rattle.operators.specs.Listing.{Workspace, BuiltAs};
+ghost use Rattle.purse.specs.Purse.{EvaluatedAs};
+ghost use Rattle.star.specs.Star.{Star};
 ghost use Rattle.star.specs.Steps.{RoundAs, EndsAs};
-
-// What a star comes to: a list with its count and the rounds made, or one that would have 129 zones.
-pub enum Starred {
-    Finished { count: usize, rounds: u64 },
-    Overflow,
-}
 
 // A round: it changed nothing, or the new list has so many zones.
 enum Round {
@@ -27,14 +28,11 @@ enum Round {
     Overflow,
 }
 
-// All rounds of a star: where the last list stands, its count and the rounds made.
+// All rounds of a star: where the last list stands, its count and the rounds left; or why there is none.
 enum Ended {
-    EndedAt {
-        at: usize,
-        count: usize,
-        rounds: u64,
-    },
-    Overflow,
+    EndedAt { at: usize, count: usize, left: u64 },
+    Overflow { left: u64 },
+    Spent,
 }
 
 // One round: the list copied to `copy`, and there each listed zone's composition with each inner zone.
@@ -64,40 +62,66 @@ fn one_round(words: &mut [i32], list: usize, n: usize, inner: usize, m: usize, c
 }
 
 // All rounds of a star, from the inner list at `first` on. A round goes from the one slot to the other, so that only the
-// copy is made that a round is. The loop ends by the bound on rounds.
-fn all_rounds(words: &mut [i32], inner: usize, m: usize, first: usize, second: usize) -> Ended
+// copy is made that a round is. None is begun beyond those told; that more would be begun then is known by the bound on rounds.
+fn all_rounds(
+    words: &mut [i32],
+    inner: usize,
+    m: usize,
+    first: usize,
+    second: usize,
+    told: u64,
+) -> Ended
     requires { ⌜ (Workspace (now words) inner m first second) × (listAt (now words) first m ≡ listAt (now words) inner m) ⌝ }
-    ensures ended { λ r. ⌜ EndsAs (listAt (now (words .entry)) inner m) first second (now (words .exit)) r ⌝ }
+    ensures ended { λ r. ⌜ EndsAs (listAt (now (words .entry)) inner m) told first second (now (words .exit)) r ⌝ }
     ensures kept { λ _. ⌜ KeptBoth first second (now (words .entry)) (now (words .exit)) ⌝ }
 {
     let mut list = first;
     let mut copy = second;
     let mut n = m;
-    let mut made: u64 = 0;
+    let mut left = told;
     loop {
-        made += 1;
+        if left == 0 {
+            return Ended::Spent;
+        }
         match one_round(words, list, n, inner, m, copy) {
             Round::Same => {
                 return Ended::EndedAt {
                     at: list,
                     count: n,
-                    rounds: made,
+                    left: left - 1,
                 };
             }
             Round::Changed(k) => {
+                left -= 1;
                 n = k;
                 let before = list;
                 list = copy;
                 copy = before;
             }
             Round::Overflow => {
-                return Ended::Overflow;
+                return Ended::Overflow { left };
             }
         }
     }
 }
 
-// `*`: the rounds, and then the diagonal of ticks from..to, into the list at `target`. The slot `scratch` is free afterwards.
+// The list of n zones at `at`, brought to `target`, with the diagonal of ticks from..to put into it.
+fn close(words: &mut [i32], at: usize, n: usize, target: usize, from: u32, to: u32) -> Listed
+    requires { ⌜ (n ≤ capacity) × (Free (now words) at) × (Free (now words) target) × ((at ≡ target) ⊎ (Disjoint at target)) × (from ≤ to) × (to ≤ 1_000_000) ⌝ }
+    ensures built { λ r. ⌜ BuiltAs (insert-each (zone (diagonal from to) ∷ []) (listAt (now (words .entry)) at n)) (now (words .exit)) target r ⌝ }
+    ensures kept { λ _. ⌜ Kept target slot-words (now (words .entry)) (now (words .exit)) ⌝ }
+{
+    list::bring(words, at, n, target);
+    let mut w = [0i32; ZONE_WORDS];
+    words::write_zone(&mut w, 0, Zone::diagonal(from, to));
+    let Grown::Grew { count, changed: _ } = pairs::grow(words, target, n, false, &w) else {
+        return Listed::Overflow; // the diagonal would be the 129th
+    };
+    Listed::Count(count)
+}
+
+// `*`: the rounds, and then the diagonal of ticks from..to, into the list at `target`. It may make as many rounds as it is told. The slot
+// `scratch` is free afterwards, and `target` too where there is no list.
 pub fn star(
     words: &mut [i32],
     inner: usize,
@@ -106,29 +130,20 @@ pub fn star(
     target: usize,
     from: u32,
     to: u32,
-) -> Starred
+    told: u64,
+) -> Evaluated
     requires { ⌜ (Workspace (now words) inner m target scratch) × (from ≤ to) × (to ≤ 1_000_000) ⌝ }
-    ensures closed { λ r. ⌜ StarAs (listAt (now (words .entry)) inner m) (diagonal from to) (now (words .exit)) target r ⌝ }
+    ensures closed { λ r. ⌜ EvaluatedAs (Star (listAt (now (words .entry)) inner m) (diagonal from to)) told (now (words .exit)) target r ⌝ }
     ensures kept { λ _. ⌜ KeptBoth target scratch (now (words .entry)) (now (words .exit)) ⌝ }
-    ensures free { λ _. ⌜ Free (now (words .exit)) scratch ⌝ }
+    ensures free { λ _. ⌜ Free (now (words .exit)) target × Free (now (words .exit)) scratch ⌝ }
 {
     list::copy_zones(words, inner, target, m);
-    let Ended::EndedAt {
-        at,
-        count: n,
-        rounds: made,
-    } = all_rounds(words, inner, m, target, scratch)
-    else {
-        return Starred::Overflow;
-    };
-    list::bring(words, at, n, target);
-    let mut w = [0i32; ZONE_WORDS];
-    words::write_zone(&mut w, 0, Zone::diagonal(from, to));
-    let Grown::Grew { count, changed: _ } = pairs::grow(words, target, n, false, &w) else {
-        return Starred::Overflow; // the diagonal would be the 129th
-    };
-    Starred::Finished {
-        count,
-        rounds: made,
+    match all_rounds(words, inner, m, target, scratch, told) {
+        Ended::EndedAt { at, count: n, left } => match close(words, at, n, target, from, to) {
+            Listed::Count(count) => Evaluated::Listed { count, left },
+            Listed::Overflow => Evaluated::Overflow { left },
+        },
+        Ended::Overflow { left } => Evaluated::Overflow { left },
+        Ended::Spent => Evaluated::Spent,
     }
 }

@@ -1,25 +1,22 @@
 -- What was built in a slot, as the value of an operator.
 use mathlib.Core.Path.{_≡_, refl, sym, ap}
-use mathlib.Core.List.{List}
-use Prim.Native.Nat.{ℕ, _+_, _-_, _≤_}
+use mathlib.Core.List.{List, [], _∷_}
+use types.Run.{OneOf, miss}
+use denote.Enum.Declared.{tagOf}
+use Prim.Native.Nat.{ℕ, _+_, _≤_}
 use native.Mathlib.Omega.{arith}
 use lib.IntN.{ℤ}
-use lib.ListN.{length}
 use mathlib.Core.Logic.{inl, inr}
-use Rattle.zone.specs.declared.Zone.{Zone}
 use Rattle.zone.specs.declared.MaybeZone.{MaybeZone}
 use Rattle.zone.specs.declared.MaybeZone.the-variants.{Zone as zone, Empty as empty}
 use Rattle.limit.specs.Limit.{Small, most-ticks}
-use Rattle.zone.specs.Zone.{diagonal}
 use Rattle.zone.proofs.Laws.{proper-within, proper-band}
 use Rattle.limit.proofs.Means.{small-most, small-least}
-use Rattle.list.specs.Insert.{capacity, Built, overflow}
-use Rattle.star.specs.Star.{finished, overflow, Star}
-use Rattle.list.specs.Slots.{slot-words, listAt, Kept, KeptBoth, Sound}
+use Rattle.list.specs.Insert as puts
+use Rattle.list.specs.Insert.{Built}
+use Rattle.list.specs.Slots.{slot-words, listAt, Kept, KeptBoth}
 use Rattle.operators.specs.Listing.{SoundBand, Listing}
-use Rattle.star.specs.Closing.{Closing}
 use Rattle.list.proofs.Copies.{brought}
-use Rattle.star.proofs.Theorems.{star-bound}
 use Rattle.expression.specs.declared.Range.{Range}
 use Rattle.expression.specs.declared.End.{End}
 use Rattle.expression.specs.declared.End.the-variants.{Closed, Open}
@@ -28,49 +25,47 @@ use Rattle.expression.specs.declared.Upper.the-variants.{Endless, UpTo}
 use Rattle.expression.specs.Refusal.{figure, Wrong}
 use Rattle.expression.proofs.Laws.{right-range}
 use Rattle.meaning.specs.Satisfies.{upperLimit, lowerLimit}
-use Rattle.meaning.specs.Lists.{Value, value, overflow, ended, longest, rangeBand, Closes}
-use Rattle.values.specs.declared.Evaluated.{Evaluated}
-use Rattle.values.specs.declared.Evaluated.the-variants.{Listed, Overflow}
-use Rattle.values.specs.Values.{Standing, EvaluatedAs}
+use Rattle.meaning.specs.Lists.{Value, value, ended, longest, rangeBand}
+use Rattle.purse.proofs.Evaluated.{the-type}
+use Rattle.purse.specs.declared.Evaluated.{Evaluated}
+use Rattle.purse.specs.declared.Evaluated.the-variants.{Listed, Overflow, Spent}
+use Rattle.purse.specs.Purse.{Standing, Overflowed, EvaluatedAs}
 
 -- ---- a value that is said in another way
 
-pub evaluated-map : (P Q : Value → Type 0) (ws : List ℤ) (base : ℕ) → ((v : Value) → P v → Q v) → (r : Evaluated) → EvaluatedAs P ws base r → EvaluatedAs Q ws base r
-evaluated-map P Q ws base f (Listed n k) s = record { list = s .list; means = f _ (s .means); holds = s .holds }
-evaluated-map P Q ws base f Overflow s = f overflow s
+pub evaluated-map : (P Q : Value → Type 0) (told : ℕ) (ws : List ℤ) (base : ℕ) → ((v : Value) → P v → Q v) → (r : Evaluated) → EvaluatedAs P told ws base r → EvaluatedAs Q told ws base r
+evaluated-map P Q told ws base f (Listed n left) s = record { list = s .list; rounds = s .rounds; means = f _ (s .means); spends = s .spends; holds = s .holds }
+evaluated-map P Q told ws base f (Overflow left) s =
+    let o = s .overflowing in record { overflowing = record { opened = o .opened; done = o .done; means = f _ (o .means); within = o .within }; spends = s .spends }
+evaluated-map P Q told ws base f Spent x = record { whole = x .whole; means = f _ (x .means); beyond = x .beyond }
 
--- ---- a list that was built
+-- ---- no list
+
+-- what is answered where there is no list is that it overflows or that rounds are spent: the code returns such an answer as it came
+pub unlisted : (P Q : Evaluated → Type 0) (r : Evaluated) → OneOf (1 ∷ 2 ∷ []) (tagOf the-type r) → ((left : ℕ) → P (Overflow left) → Q (Overflow left)) → (P Spent → Q Spent) → P r → Q r
+unlisted P Q (Listed n left) k f g p = absurd (miss (1 ∷ 2 ∷ []) 0 tt k)
+unlisted P Q (Overflow left) k f g p = f left p
+unlisted P Q Spent k f g p = g p
+
+-- so it is the same wherever the words stand
+pub unlisted-elsewhere : (comes : Value → Type 0) (told : ℕ) (ws vs : List ℤ) (at base : ℕ) (r : Evaluated) → OneOf (1 ∷ 2 ∷ []) (tagOf the-type r) → EvaluatedAs comes told ws at r → EvaluatedAs comes told vs base r
+unlisted-elsewhere comes told ws vs at base r k = unlisted (EvaluatedAs comes told ws at) (EvaluatedAs comes told vs base) r k (λ left o. o) (λ x. x)
+
+-- ---- a list that was built without rounds
 
 -- no list: the value overflows
-pub over : {b : Built} (r : ℕ) → b ≡ overflow → overflow ≡ ended b r
-over r e = ap (λ (c : Built). ended c r) (sym e)
+pub over : {b : Built} (left : ℕ) → b ≡ puts.overflow → Overflowed (λ v. v ≡ ended b) left left
+over left e = record { overflowing = record { opened = 0; done = 0; means = ap ended (sym e); within = omega arith }; spends = omega arith }
 
--- a list where it was built, and one brought to another slot
-pub stands : {b : Built} {ws : List ℤ} {base n : ℕ} (r : ℕ) → Listing b ws base n → Standing (λ v. v ≡ ended b r) ws base n r
-stands r l = record { list = l .list; means = ap (λ (c : Built). ended c r) (sym (l .value)); holds = l .holds }
+-- a list where it was built
+pub stands : {b : Built} {ws : List ℤ} {base n : ℕ} (left : ℕ) → Listing b ws base n → Standing (λ v. v ≡ ended b) left ws base n left
+stands left l = record { list = l .list; rounds = 0; means = ap ended (sym (l .value)); spends = omega arith; holds = l .holds }
 
-pub stands-brought : {b : Built} {ws vs : List ℤ} {at base n : ℕ} (r : ℕ) → Listing b ws at n → listAt vs base n ≡ listAt ws at n
-    → Standing (λ v. v ≡ ended b r) vs base n r
-stands-brought r l e = record { list = l .list; means = ap (λ (c : Built). ended c r) (sym (l .value)); holds = brought (l .holds) e }
+-- ---- a list brought to another slot
 
--- ---- a star
-
-module _ {from to : ℕ} {inner : List Zone} (rounds : ℕ) where
-  pub closes-over : Star inner (diagonal from to) overflow → Closes from to inner rounds overflow
-  closes-over s = record { outcome = overflow; star = s; built = refl }
-
-  pub closes-brought : {ws vs : List ℤ} {at base n made : ℕ} → Closing inner (diagonal from to) ws at n made → listAt vs base n ≡ listAt ws at n
-      → Standing (Closes from to inner rounds) vs base n (rounds + made)
-  closes-brought {made = made} l e =
-      record {
-        list = l .list;
-        means = record { outcome = finished made (l .list); star = l .value; built = refl };
-        holds = brought (l .holds) e;
-      }
-
--- its own rounds are few
-pub made-few : {inner : List Zone} {diag : Zone} {ws : List ℤ} {at n made : ℕ} → Sound inner → length inner ≤ capacity → Closing inner diag ws at n made → made ≤ 1_000_128
-made-few p h l = let b = star-bound {from = 0} {to = 1_000_000} p (omega arith) (l .value) in omega arith
+pub stands-brought : {comes : Value → Type 0} {told : ℕ} {ws vs : List ℤ} {at base n left : ℕ} → Standing comes told ws at n left → listAt vs base n ≡ listAt ws at n
+    → Standing comes told vs base n left
+stands-brought s e = record { list = s .list; rounds = s .rounds; means = s .means; spends = s .spends; holds = brought (s .holds) e }
 
 -- ---- words written in two slots of a region
 

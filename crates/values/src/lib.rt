@@ -1,7 +1,7 @@
-// What an expression comes to, in a slot of a lent work buffer: its list with its rounds, or that it overflows; and what an
-// operator comes to from the values of its operands. A list is built in a free slot and brought to its place.
+// What an operator comes to from the finished lists of its operands, in slots of a lent work buffer. A list is built in a free slot and brought
+// to its place.
 //
-// specs/Values.antt says how a slot holds a value; the crate `meaning` which value it is.
+// The crate `purse` says how a slot holds a value; `meaning` which value it is.
 use expression::End;
 use expression::Join;
 use expression::Range;
@@ -10,7 +10,7 @@ use expression::Upper;
 use limit::Limit;
 use list::SLOT_WORDS;
 use operators::Listed;
-use star::Starred;
+use purse::Evaluated;
 use zone::MaybeZone;
 use zone::Zone;
 ghost use mathlib.Core.Path.{_≡_};
@@ -23,17 +23,14 @@ ghost use Rattle.operators.specs.Listing.{BuiltAs};
 ghost use Rattle.expression.specs.Refusal.{figure, Wrong};
 ghost use Rattle.expression.specs.Planted.{Right};
 ghost use Rattle.meaning.specs.Satisfies.{upperLimit, lowerLimit};
-ghost use Rattle.meaning.specs.Lists.{ended, longest, rangeBand, Closes, joinList, applied};
-ghost use Rattle.values.specs.Values.{EvaluatedAs, Ticks, OperandAt, most-rounds, Came, Carried};
+ghost use Rattle.zone.specs.Zone.{diagonal};
+ghost use Rattle.star.specs.Star.{Star};
+ghost use Rattle.purse.specs.Purse.{EvaluatedAs};
+ghost use Rattle.meaning.specs.Lists.{ended, longest, rangeBand, joinList, applied};
+ghost use Rattle.values.specs.Values.{Ticks, OperandAt};
 
 // The words of two slots: how far behind its operands' slots a list is built.
 const TWO_SLOTS: usize = 2 * SLOT_WORDS;
-
-// What an expression comes to: a list with its count and its total of rounds, or one that would have 129 zones.
-pub enum Evaluated {
-    Listed { count: usize, rounds: u64 },
-    Overflow,
-}
 
 // `|`, `&` and `.`: the list of the operator, from the lists of n and m zones at `left` and `right`, built at `target`.
 fn build(
@@ -56,38 +53,19 @@ fn build(
     }
 }
 
-// The same of the left list, of n zones in the slot at `base` after p rounds, and of what the right operand came to in the
-// slot after it, brought to `base`. The other words of the three slots from `base` on are free, and all of them where it
-// overflows.
-pub fn combine(
-    op: Join,
-    work: &mut [i32],
-    base: usize,
-    n: usize,
-    p: u64,
-    right: Evaluated,
-) -> Evaluated
-    requires { ⌜ (OperandAt (now work) base n) × (p ≤ most-rounds) × (Came Source (now work) (base + slot-words) right) ⌝ }
-    ensures value { λ r. ⌜ EvaluatedAs (Carried (λ B q v. v ≡ ended (joinList op (listAt (now (work .entry)) base n) B) (p + q)) (now (work .entry)) (base + slot-words) right) (now (work .exit)) base r ⌝ }
+// The same of the left list, of n zones in the slot at `base`, and the right one, of m zones in the slot after it, brought to `base`. No round
+// is spent. The other words of the three slots from `base` on are free, and all of them where it overflows.
+pub fn combine(op: Join, work: &mut [i32], base: usize, n: usize, m: usize, left: u64) -> Evaluated
+    requires { ⌜ (OperandAt (now work) base n) × (Source (now work) (base + slot-words) m) ⌝ }
+    ensures value { λ r. ⌜ EvaluatedAs (λ v. v ≡ ended (joinList op (listAt (now (work .entry)) base n) (listAt (now (work .entry)) (base + slot-words) m))) left (now (work .exit)) base r ⌝ }
     ensures kept { λ _. ⌜ Kept base (3 * slot-words) (now (work .entry)) (now (work .exit)) ⌝ }
 {
-    let Evaluated::Listed {
-        count: m,
-        rounds: q,
-    } = right
-    else {
-        return Evaluated::Overflow;
-    };
     let target = base + TWO_SLOTS;
     let Listed::Count(count) = build(op, work, base, n, base + SLOT_WORDS, m, target) else {
-        return Evaluated::Overflow;
+        return Evaluated::Overflow { left };
     };
     list::bring(work, target, count, base);
-    let both = p + q;
-    Evaluated::Listed {
-        count,
-        rounds: both,
-    }
+    Evaluated::Listed { count, left }
 }
 
 // The limit that an end sets as the hi of a range, and as the lo.
@@ -132,7 +110,7 @@ fn range_band(range: Range, from: u32, to: u32) -> MaybeZone
     Zone::band(from, to, longest(range, from, to), lower_limit(lo))
 }
 
-// `{lo,hi}`: the meets of the list in the slot at `base` with the band, brought to `base`.
+// `{lo,hi}`: the meets of the list in the slot at `base` with the band, brought to `base`. No round is spent.
 fn banded(
     work: &mut [i32],
     base: usize,
@@ -140,60 +118,54 @@ fn banded(
     range: Range,
     from: u32,
     to: u32,
-    rounds: u64,
+    left: u64,
 ) -> Evaluated
     requires { ⌜ (OperandAt (now work) base n) × (Ticks from to) × (Wrong range → ⊥) ⌝ }
-    ensures value { λ r. ⌜ EvaluatedAs (λ v. v ≡ ended (banded (rangeBand from to range) (listAt (now (work .entry)) base n)) rounds) (now (work .exit)) base r ⌝ }
+    ensures value { λ r. ⌜ EvaluatedAs (λ v. v ≡ ended (banded (rangeBand from to range) (listAt (now (work .entry)) base n))) left (now (work .exit)) base r ⌝ }
     ensures kept { λ _. ⌜ Kept base (3 * slot-words) (now (work .entry)) (now (work .exit)) ⌝ }
 {
     let target = base + TWO_SLOTS;
     let band = range_band(range, from, to);
     let Listed::Count(count) = operators::band(work, base, n, band, base + SLOT_WORDS, target)
     else {
-        return Evaluated::Overflow;
+        return Evaluated::Overflow { left };
     };
     list::bring(work, target, count, base);
-    Evaluated::Listed { count, rounds }
+    Evaluated::Listed { count, left }
 }
 
 // `*`: the rounds from the list in the slot at `base`, and then the diagonal, brought to `base`.
-fn star(work: &mut [i32], base: usize, n: usize, from: u32, to: u32, rounds: u64) -> Evaluated
-    requires { ⌜ (OperandAt (now work) base n) × (Ticks from to) × (rounds ≤ most-rounds) ⌝ }
-    ensures value { λ r. ⌜ EvaluatedAs (Closes from to (listAt (now (work .entry)) base n) rounds) (now (work .exit)) base r ⌝ }
+fn star(work: &mut [i32], base: usize, n: usize, from: u32, to: u32, told: u64) -> Evaluated
+    requires { ⌜ (OperandAt (now work) base n) × (Ticks from to) ⌝ }
+    ensures value { λ r. ⌜ EvaluatedAs (Star (listAt (now (work .entry)) base n) (diagonal from to)) told (now (work .exit)) base r ⌝ }
     ensures kept { λ _. ⌜ Kept base (3 * slot-words) (now (work .entry)) (now (work .exit)) ⌝ }
 {
     let closed = base + SLOT_WORDS;
-    let Starred::Finished {
-        count,
-        rounds: made,
-    } = star::star(work, base, n, base + TWO_SLOTS, closed, from, to)
-    else {
-        return Evaluated::Overflow;
+    let starred = star::star(work, base, n, base + TWO_SLOTS, closed, from, to, told);
+    let Evaluated::Listed { count, left: _ } = starred else {
+        return starred;
     };
     list::bring(work, closed, count, base);
-    let all = rounds + made;
-    Evaluated::Listed { count, rounds: all }
+    starred
 }
 
-// The operators with one operand, on what it came to in the slot at `base`. The other words of the three slots from there
-// on are free, and all of them where it overflows.
+// The operators with one operand, on its list of n zones in the slot at `base`, with the rounds that it has left. The other words of the
+// three slots from there on are free, and all of them where there is no list.
 pub fn apply(
     op: Unary,
-    operand: Evaluated,
     work: &mut [i32],
     base: usize,
+    n: usize,
     from: u32,
     to: u32,
+    left: u64,
 ) -> Evaluated
-    requires { ⌜ (Came OperandAt (now work) base operand) × (Ticks from to) × (Right op) ⌝ }
-    ensures value { λ r. ⌜ EvaluatedAs (Carried (applied from to op) (now (work .entry)) base operand) (now (work .exit)) base r ⌝ }
+    requires { ⌜ (OperandAt (now work) base n) × (Ticks from to) × (Right op) ⌝ }
+    ensures value { λ r. ⌜ EvaluatedAs (applied from to op (listAt (now (work .entry)) base n)) left (now (work .exit)) base r ⌝ }
     ensures kept { λ _. ⌜ Kept base (3 * slot-words) (now (work .entry)) (now (work .exit)) ⌝ }
 {
-    let Evaluated::Listed { count: n, rounds } = operand else {
-        return Evaluated::Overflow;
-    };
     match op {
-        Unary::Star => star(work, base, n, from, to, rounds),
-        Unary::Band(range) => banded(work, base, n, range, from, to, rounds),
+        Unary::Star => star(work, base, n, from, to, left),
+        Unary::Band(range) => banded(work, base, n, range, from, to, left),
     }
 }

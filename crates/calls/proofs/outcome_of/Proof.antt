@@ -16,4 +16,6 @@ outcome-of-spec =
     (λ c. search needs)
     (λ c. search needs)
     (λ c. search needs)
+    (λ c. search needs)
+    (λ c. search needs)
     (λ c. ap outcomeOf (sym (c .before .worked .given .1))))

@@ -1,41 +1,12 @@
--- `find` meets its contract: the three demands follow from the defined outcome.
-use mathlib.Core.Path.{refl}
-use Rattle.recording.specs.declared.Reading.the-variants.{WrongLength, WrongHead, WrongChange}
-use Rattle.calls.proofs.Outcomes.{recording-call}
-use Rattle.calls.proofs.Finding.{untouched}
-use Rattle.finder.proofs.Demands.{promised}
+-- `find` meets its contract: it is told more rounds than any drill begins, and so is never stopped.
+use native.Mathlib.Omega.{arith}
+use Rattle.finder.proofs.Demands.{promised-unlimited}
 use borrow.Author.Needs.{needs}
 use Rattle.finder.proofs.find.Statement.{statement}
 use Rattle.finder.proofs.find.Tie as tie
 
-find-in-requires : tie.Need-find-in-requires
-find-in-requires c κs = rw (c .before .before .before .size .given .1) at (c .before .before .before .before .before .read .ensures)
-
 returns : tie.Need-returns
-returns c = promised (c .before .before .find-in .ensures)
-
-returns-2 : tie.Need-returns-2
-returns-2 c = promised (untouched refl (recording-call _ _ _ _ WrongLength (rw (c .enum-told .given .1) at (c .before .before .read .ensures))))
-
-returns-3 : tie.Need-returns-3
-returns-3 c = promised (untouched refl (recording-call _ _ _ _ WrongHead (rw (c .enum-told2 .given .1) at (c .before .before .read .ensures))))
-
-returns-4 : tie.Need-returns-4
-returns-4 c = promised (untouched refl (recording-call _ _ _ _ WrongChange (rw (c .enum-told3 .given .1) at (c .before .before .read .ensures))))
+returns c = promised-unlimited (omega arith) (c .before .before .find-within .ensures .0 .defined)
 
 pub find-spec : {M : Type 1} → statement M
-find-spec =
-    tie.close
-    (tie.spec
-    (λ c κs. search needs)
-    (λ c. search needs)
-    find-in-requires
-    (λ c. search needs)
-    (λ c. search needs)
-    (λ c. search needs)
-    (λ c. search needs)
-    (λ c. search needs)
-    returns
-    returns-2
-    returns-3
-    returns-4)
+find-spec = tie.close (tie.spec (λ c κs. search needs) (λ c. search needs) (λ c. search needs) returns)

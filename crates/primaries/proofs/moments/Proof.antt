@@ -11,7 +11,7 @@ spell-requires c κs = let start = c .before .before .before in (rw (c .before .
 returns : tie.Need-returns
 returns c =
     let start = c .before .before .before .before .before in
-    (spells-moments (start .pre .0) _ _ _ _ (c .before .spell .result) (rw (c .before .before .before .around .ensures) at (c .before .spell .ensures .0)), c .before .spell .ensures .1)
+    (spells-moments (start .pre .0) _ _ _ _ _ (c .before .spell .result) (rw (c .before .before .before .around .ensures) at (c .before .spell .ensures .0)), c .before .spell .ensures .1)
 
 pub moments-spec : {M : Type 1} → statement M
 moments-spec = tie.close (tie.spec (λ c κs. search needs) spell-requires (λ c. search needs) returns)

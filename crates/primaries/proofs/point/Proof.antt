@@ -28,7 +28,7 @@ returns-2 c =
     let a = rw (c .before .before .before .before .before .diagonal .ensures .0, c .before .count .given .1) at (c .before .before .before .before .insert .ensures) in
     let r = Placed (c .before .count .given .0 .0) in
     let room = c .before .before .before .before .before .before .before .pre .1 in
-    (stands 0 (put-built z _ _ _ _ (record { few = omega arith; room = room }) r a), put-kept z _ _ _ _ (record { few = omega arith; room = room }) r a)
+    (stands _ (put-built z _ _ _ _ (record { few = omega arith; room = room }) r a), put-kept z _ _ _ _ (record { few = omega arith; room = room }) r a)
 
 pub point-spec : {M : Type 1} → statement M
 point-spec = tie.close (tie.spec (λ c κs. search needs) insert-requires (λ c. search needs) (λ c. search needs) returns (λ c. search needs) returns-2)

@@ -11,10 +11,10 @@ use Rattle.primaries.proofs.spell.Statement.{statement}
 use Rattle.primaries.proofs.spell.Tie as tie
 
 abbrev Inv-loop : tie.InvT-loop
-Inv-loop bytes window channel level mark work₀ base cursor₀ count₀ work cursor count = Spelt bytes channel level mark (window .from) (window .to) cursor base work₀ work count
+Inv-loop bytes window channel level mark work₀ base told cursor₀ count₀ work cursor count = Spelt bytes channel level mark (window .from) (window .to) cursor base work₀ work count
 
 abbrev μ-loop : tie.MeasureT-loop
-μ-loop bytes window channel level mark work₀ base cursor₀ count₀ work cursor count = window .to - position bytes (window .from) (window .to) cursor
+μ-loop bytes window channel level mark work₀ base told cursor₀ count₀ work cursor count = window .to - position bytes (window .from) (window .to) cursor
 
 loop-holds : tie.Need-loop-holds Inv-loop μ-loop
 loop-holds c = spelt-none _ _ _ _ _ _ _ _
@@ -26,7 +26,7 @@ same-length : tie.Need-same-length Inv-loop μ-loop
 same-length c = c .before .before .before .loop .inv .frame .same-length
 
 returns : tie.Need-returns Inv-loop μ-loop
-returns c = (spelt-all _ _ _ _ _ _ (c .before .before .before .loop .inv) (rw (c .enum-told .given .1) at (c .before .before .next-run .ensures)), c .before .before .before .loop .inv .frame)
+returns c = (spelt-all _ _ _ _ _ _ (c .before .before .before .loop .inv) _ (rw (c .enum-told .given .1) at (c .before .before .next-run .ensures)), c .before .before .before .loop .inv .frame)
 
 mark-of-requires : tie.Need-mark-of-requires Inv-loop μ-loop
 mark-of-requires c κs =
@@ -61,7 +61,7 @@ returns-2 c =
     let turn = c .before .before .before .before .before .before .before .before .before .before .before .before .before in
     let n = rw (c .before .before .before .before .before .before .before .before .before .before .run .given .1) at (c .before .before .before .before .before .before .before .before .before .before .before .before .next-run .ensures) in
     let over = rw (c .enum-told3 .given .1) at (c .before .before .before .put .ensures .0) in
-    (spelt-over _ _ _ _ _ _ (turn .loop .inv) _ _ n (c .before .before .before .before .before .before .before .before .mark-of .ensures) (rw (c .before .before .before .before .before .before .z .given .1) (over .0)), kept-trans (turn .loop .inv .frame) (c .before .before .before .put .ensures .1))
+    (spelt-over _ _ _ _ _ _ (turn .loop .inv) _ _ n (c .before .before .before .before .before .before .before .before .mark-of .ensures) _ (rw (c .before .before .before .before .before .before .z .given .1) (over .0)), kept-trans (turn .loop .inv .frame) (c .before .before .before .put .ensures .1))
 
 loop-less-2 : tie.Need-loop-less-2 Inv-loop μ-loop
 loop-less-2 c = let n = rw (c .before .before .before .before .before .before .before .before .before .before .before .run .given .1) at (c .before .before .before .before .before .before .before .before .before .before .before .before .before .next-run .ensures) in omega (arith, n .0 .ahead, n .0 .some, n .0 .upper, n .1)

@@ -3,7 +3,7 @@ use mathlib.Core.Logic.{inl, inr}
 use native.Mathlib.Omega.{arith}
 use borrow.Author.Needs.{needs}
 use Rattle.list.proofs.Slots.{kept-trans, kept-within}
-use Rattle.values.proofs.Standings.{over, stands-brought, kept-region, band-sound}
+use Rattle.values.proofs.Standings.{over, stands, stands-brought, kept-region, band-sound}
 use Rattle.values.proofs.banded.Statement.{statement}
 use Rattle.values.proofs.banded.Tie as tie
 
@@ -29,7 +29,7 @@ bring-requires c κs = let l = rw (c .before .before .count .given .1) at (c .be
 
 returns-2 : tie.Need-returns-2
 returns-2 c = (
-  stands-brought _ (rw (c .before .before .before .before .before .before .before .before .before .range-band .ensures, c .before .before .before .before .count .given .1) at (c .before .before .before .before .before .before .before .band .ensures .0)) (c .before .bring .ensures .0),
+  stands-brought (stands _ (rw (c .before .before .before .before .before .before .before .before .before .range-band .ensures, c .before .before .before .before .count .given .1) at (c .before .before .before .before .before .before .before .band .ensures .0))) (c .before .bring .ensures .0),
   kept-trans (kept-region (omega arith) (omega arith) (omega arith) (omega arith) (c .before .before .before .before .before .before .before .band .ensures .1 .0)) (kept-within (omega arith) (omega arith) (c .before .bring .ensures .1)),
 )
 

@@ -1,44 +1,37 @@
--- `combine` meets its contract: the list is built two slots above, and brought back; the rounds fit.
+-- `combine` meets its contract: the list is built two slots above, and brought back.
 use mathlib.Core.Logic.{inl, inr}
-use mathlib.Core.Path.{refl}
 use native.Mathlib.Omega.{arith}
 use borrow.Author.Needs.{needs}
-use Rattle.list.proofs.Slots.{kept-refl, kept-trans, kept-within}
-use Rattle.values.proofs.Standings.{over, stands-brought}
+use Rattle.list.proofs.Slots.{kept-trans, kept-within}
+use Rattle.values.proofs.Standings.{over, stands, stands-brought}
 use Rattle.values.proofs.combine.Statement.{statement}
 use Rattle.values.proofs.combine.Tie as tie
 
-returns : tie.Need-returns
-returns c = (rw (c .enum-told .given .1) refl, kept-refl _ _ _)
-
 build-requires : tie.Need-build-requires
 build-requires c κs =
-    let start = c .before .before .before .before in
+    let start = c .before in
     let left = start .pre .0 in
     record {
       lefts = record { list = record { few = left .few; room = omega (arith, left .room); sound = left .sound }; slot = record { few = omega arith; room = omega (arith, left .room) }; apart = inl (omega arith) };
-      rights = record { list = (rw (c .before .before .right .given .1) at (start .pre .2)) .0; slot = record { few = omega arith; room = omega (arith, left .room) }; apart = inl (omega arith) };
+      rights = record { list = start .pre .1; slot = record { few = omega arith; room = omega (arith, left .room) }; apart = inl (omega arith) };
     }
 
-returns-2 : tie.Need-returns-2
-returns-2 c =
+returns : tie.Need-returns
+returns c =
     let the-build = c .before .before .before .build in
-    (rw (c .before .before .before .before .before .before .right .given .1) (over _ ((rw (c .enum-told2 .given .1) at (the-build .ensures .0)) .0)), kept-within (omega arith) (omega arith) (the-build .ensures .1))
+    (over _ ((rw (c .enum-told .given .1) at (the-build .ensures .0)) .0), kept-within (omega arith) (omega arith) (the-build .ensures .1))
 
 bring-requires : tie.Need-bring-requires
 bring-requires c κs =
     let the-build = c .before .before .before .before .before .build in
-    let room = c .before .before .before .before .before .before .before .before .before .before .pre .0 .room in
+    let room = c .before .before .before .before .before .before .before .pre .0 .room in
     let l = rw (c .before .before .count .given .1) at (the-build .ensures .0) in
     (l .holds .few, omega (arith, the-build .ensures .1 .same-length), omega (arith, the-build .ensures .1 .same-length), inr (inr (omega arith)))
 
-add-both : tie.Need-add-both
-add-both c = let start = c .before .before .before .before .before .before .before .before .before .before .before .before in omega (arith, start .pre .1, (rw (c .before .before .before .before .before .before .before .before .before .before .right .given .1) at (start .pre .2)) .1)
-
-returns-3 : tie.Need-returns-3
-returns-3 c =
+returns-2 : tie.Need-returns-2
+returns-2 c =
     let the-build = c .before .before .before .before .before .before .before .build in (
-      rw (c .before .before .before .before .before .before .before .before .before .before .right .given .1) (stands-brought _ (rw (c .before .before .before .before .count .given .1) at (the-build .ensures .0)) (c .before .bring .ensures .0)),
+      stands-brought (stands _ (rw (c .before .before .before .before .count .given .1) at (the-build .ensures .0))) (c .before .bring .ensures .0),
       kept-trans (kept-within (omega arith) (omega arith) (the-build .ensures .1)) (kept-within (omega arith) (omega arith) (c .before .bring .ensures .1)),
     )
 
@@ -48,15 +41,11 @@ combine-spec =
     (tie.spec
     (λ c. search needs)
     (λ c. search needs)
-    returns
-    (λ c. search needs)
-    (λ c. search needs)
     build-requires
     (λ c. search needs)
     (λ c. search needs)
     (λ c. search needs)
-    returns-2
+    returns
     bring-requires
-    add-both
     (λ c. search needs)
-    returns-3)
+    returns-2)

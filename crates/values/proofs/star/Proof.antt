@@ -1,9 +1,9 @@
--- `star` meets its contract: the list is built one slot above, and brought back; its rounds fit.
+-- `star` meets its contract: the list is built one slot above, and brought back.
 use mathlib.Core.Logic.{inl, inr}
 use native.Mathlib.Omega.{arith}
 use borrow.Author.Needs.{needs}
-use Rattle.list.proofs.Slots.{kept-trans, kept-within, listAt-length}
-use Rattle.values.proofs.Standings.{closes-over, closes-brought, kept-region, made-few}
+use Rattle.list.proofs.Slots.{kept-trans, kept-within}
+use Rattle.values.proofs.Standings.{unlisted-elsewhere, stands-brought, kept-region}
 use Rattle.values.proofs.star.Statement.{statement}
 use Rattle.values.proofs.star.Tie as tie
 
@@ -22,36 +22,24 @@ star-requires c κs = (
 )
 
 returns : tie.Need-returns
-returns c = (closes-over _ ((rw (c .enum-told .given .1) at (c .before .before .before .star .ensures .0)) .0), kept-region (omega arith) (omega arith) (omega arith) (omega arith) (c .before .before .before .star .ensures .1 .0))
+returns c =
+    let the-star = c .before .before .star in
+    (unlisted-elsewhere _ _ _ _ _ _ (the-star .result) (c .match .keys2) (the-star .ensures .0), kept-region (omega arith) (omega arith) (omega arith) (omega arith) (the-star .ensures .1 .0))
 
 bring-requires : tie.Need-bring-requires
-bring-requires c κs = let l = rw (c .before .before .count .given .1) at (c .before .before .before .before .before .star .ensures .0) in
-    (l .holds .few, omega (arith, c .before .before .before .before .before .star .ensures .1 .0 .same-length), omega (arith, c .before .before .before .before .before .star .ensures .1 .0 .same-length), inr (inr (omega arith)))
-
-add-all : tie.Need-add-all
-add-all c =
-    let start = c .before .before .before .before .before .before .before .before .before in
-    let l = rw (c .before .before .before .before .count .given .1) at (c .before .before .before .before .before .before .before .star .ensures .0) in
-    omega (arith, made-few (start .pre .0 .sound) (omega (arith, start .pre .0 .few, listAt-length (start .args .work .now) (start .args .base) (start .args .n))) l, start .pre .2)
+bring-requires c κs =
+    let the-star = c .before .before .before .before .before .star in
+    let l = rw (c .before .before .starred .given .1) at (the-star .ensures .0) in
+    (l .holds .few, omega (arith, the-star .ensures .1 .0 .same-length), omega (arith, the-star .ensures .1 .0 .same-length), inr (inr (omega arith)))
 
 returns-2 : tie.Need-returns-2
-returns-2 c = (
-  closes-brought _ (rw (c .before .before .before .before .count .given .1) at (c .before .before .before .before .before .before .before .star .ensures .0)) (c .before .bring .ensures .0),
-  kept-trans (kept-region (omega arith) (omega arith) (omega arith) (omega arith) (c .before .before .before .before .before .before .before .star .ensures .1 .0)) (kept-within (omega arith) (omega arith) (c .before .bring .ensures .1)),
-)
+returns-2 c =
+    let the-star = c .before .before .before .before .before .before .before .star in (
+      stands-brought (rw (c .before .before .before .before .starred .given .1) at (the-star .ensures .0)) (c .before .bring .ensures .0),
+      kept-trans (kept-region (omega arith) (omega arith) (omega arith) (omega arith) (the-star .ensures .1 .0)) (kept-within (omega arith) (omega arith) (c .before .bring .ensures .1)),
+    )
 
 pub star-spec : {M : Type 1} → statement M
 star-spec =
     tie.close
-    (tie.spec
-    (λ c. search needs)
-    (λ c. search needs)
-    star-requires
-    (λ c. search needs)
-    (λ c. search needs)
-    (λ c. search needs)
-    returns
-    bring-requires
-    add-all
-    (λ c. search needs)
-    returns-2)
+    (tie.spec (λ c. search needs) (λ c. search needs) star-requires (λ c. search needs) (λ c. search needs) returns bring-requires (λ c. search needs) returns-2)

@@ -1,0 +1,2 @@
+-- What the contract of `hold` cites: definitions alone.
+pub mod Lesson

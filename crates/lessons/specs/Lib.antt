@@ -1,0 +1,3 @@
+-- What the contracts of `lessons` cite: definitions alone.
+pub mod Lessons
+pub mod Steps

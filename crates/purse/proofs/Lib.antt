@@ -1,0 +1,2 @@
+-- Laws on values and their rounds.
+pub mod Values

@@ -1,0 +1,3 @@
+-- What the contracts of `results` cite: definitions alone.
+pub mod Results
+pub mod Steps

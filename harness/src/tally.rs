@@ -1,0 +1,248 @@
+//! What a campaign compared, and what it must have met to say anything.
+
+use std::fmt;
+
+use crate::finder::Found;
+use crate::refusal::Refusal;
+
+/// Calls by returned number, 0 being acceptance.
+#[derive(Clone, Debug, Default)]
+pub struct Numbers([u64; Refusal::NUMBERS]);
+
+impl Numbers {
+    pub fn note(&mut self, number: u32) {
+        self.0[number as usize] += 1;
+    }
+
+    fn total(&self) -> u64 {
+        self.0.iter().sum()
+    }
+
+    fn accepted(&self) -> u64 {
+        self.0[0]
+    }
+
+    fn of(&self, refusal: Refusal) -> u64 {
+        self.0[refusal.number() as usize]
+    }
+
+    /// How often each of these causes came up.
+    fn each(&self, causes: &[Refusal]) -> String {
+        let counts = causes.iter().map(|&cause| (cause, self.of(cause)));
+        let counts: Vec<String> = counts
+            .map(|(cause, count)| format!("{cause}: {count}"))
+            .collect();
+        counts.join(", ")
+    }
+
+    /// Those of these causes that never came up, said of calls of a kind.
+    fn missing<'a>(
+        &'a self,
+        causes: &'a [Refusal],
+        kind: &'a str,
+    ) -> impl Iterator<Item = String> + 'a {
+        let missing = causes.iter().filter(|&&cause| self.of(cause) == 0);
+        missing.map(move |cause| format!("{kind}{cause}"))
+    }
+}
+
+/// What was compared.
+#[derive(Default)]
+pub struct Tally {
+    /// Calls on a drill by itself.
+    pub alone: Numbers,
+    /// Accepted drills with a bound that is not reached.
+    pub not_reached: u64,
+    /// Accepted recordings with a time or a duration that is a half and goes down.
+    pub halves_down: u64,
+    /// Accepted drills with a rise that lists a zone.
+    pub rises: u64,
+    /// Accepted drills with a fall that lists a zone.
+    pub falls: u64,
+    zones: u64,
+    stars: u64,
+    most_rounds: u64,
+    /// Calls that are told the rounds left.
+    pub told: Numbers,
+    /// Accepted drills that took the last round left.
+    pub last_rounds: u64,
+    /// Drills accepted after one of their sheet was refused by 13.
+    pub after_13: u64,
+    /// Whole lessons.
+    pub lessons: Numbers,
+    pub stretches: usize,
+    pub passed_over: u64,
+}
+
+impl Tally {
+    pub fn note(&mut self, found: &Found) {
+        self.alone.note(found.returned.number);
+        self.zones += found.returned.zones;
+        self.stars += found.stars.len() as u64;
+        let rounds = found.stars.iter().map(|star| star.rounds).max();
+        self.most_rounds = self.most_rounds.max(rounds.unwrap_or(0));
+    }
+
+    /// What came up in no call, of the refusals and of what accepted calls must show.
+    pub fn missing(&self) -> Vec<String> {
+        let mut missing: Vec<String> = self.alone.missing(Refusal::OF_FIND, "").collect();
+        missing.extend(
+            self.told
+                .missing(&told_causes(), "told the rounds left and "),
+        );
+        missing.extend(self.lessons.missing(Refusal::OF_LESSON, "a lesson and "));
+        let others = [
+            (
+                self.not_reached,
+                "accepted with a bound that is not reached",
+            ),
+            (self.halves_down, "accepted with a half that goes down"),
+            (self.rises, "accepted with a rise that lists a zone"),
+            (self.falls, "accepted with a fall that lists a zone"),
+            (self.told.accepted(), "told the rounds left and accepted"),
+            (self.last_rounds, "accepted with the last round left"),
+            (self.after_13, "accepted after a drill refused 13"),
+            (self.lessons.accepted(), "a lesson that was run"),
+        ];
+        for (count, what) in others {
+            if count == 0 {
+                missing.push(what.into());
+            }
+        }
+        missing
+    }
+
+    /// One of everything.
+    #[cfg(test)]
+    pub fn full() -> Tally {
+        Tally {
+            alone: Numbers([1; Refusal::NUMBERS]),
+            not_reached: 1,
+            halves_down: 1,
+            rises: 1,
+            falls: 1,
+            told: Numbers([1; Refusal::NUMBERS]),
+            last_rounds: 1,
+            after_13: 1,
+            lessons: Numbers([1; Refusal::NUMBERS]),
+            ..Tally::default()
+        }
+    }
+}
+
+/// What a call that is told the rounds left may be refused by.
+fn told_causes() -> Vec<Refusal> {
+    [Refusal::OF_FIND, Refusal::OF_ROUNDS].concat()
+}
+
+impl fmt::Display for Tally {
+    fn fmt(&self, out: &mut fmt::Formatter) -> fmt::Result {
+        write!(
+            out,
+            "{} calls, accepted {} ({} of them with a bound that is not reached, {} with a half that \
+             goes down, {} with a rise and {} with a fall that lists a zone) with {} zones and {} stars \
+             (at most {} rounds, all within n + d), {}; ",
+            self.alone.total(),
+            self.alone.accepted(),
+            self.not_reached,
+            self.halves_down,
+            self.rises,
+            self.falls,
+            self.zones,
+            self.stars,
+            self.most_rounds,
+            self.alone.each(Refusal::OF_FIND),
+        )?;
+        write!(
+            out,
+            "{} calls told the rounds left, accepted {} ({} of them with the last round left, {} after \
+             a drill refused 13), {}; ",
+            self.told.total(),
+            self.told.accepted(),
+            self.last_rounds,
+            self.after_13,
+            self.told.each(&told_causes()),
+        )?;
+        write!(
+            out,
+            "{} lessons, run {}, {}; {} stretches compared, {} cases passed over for time",
+            self.lessons.total(),
+            self.lessons.accepted(),
+            self.lessons.each(Refusal::OF_LESSON),
+            self.stretches,
+            self.passed_over,
+        )
+    }
+}
+
+#[cfg(test)]
+mod tests {
+    use super::*;
+
+    /// Whatever is taken out of a tally that misses nothing is missed, and nothing else.
+    #[test]
+    fn a_campaign_misses_what_never_came_up() {
+        assert_eq!(Tally::full().missing(), [""; 0]);
+        type Take = fn(&mut Tally);
+        let taken: [(Take, &str); 14] = [
+            (|tally| tally.alone.0[1] = 0, "refused 1"),
+            (|tally| tally.alone.0[11] = 0, "refused 11"),
+            (
+                |tally| tally.not_reached = 0,
+                "accepted with a bound that is not reached",
+            ),
+            (
+                |tally| tally.halves_down = 0,
+                "accepted with a half that goes down",
+            ),
+            (
+                |tally| tally.rises = 0,
+                "accepted with a rise that lists a zone",
+            ),
+            (
+                |tally| tally.falls = 0,
+                "accepted with a fall that lists a zone",
+            ),
+            (
+                |tally| tally.told.0[0] = 0,
+                "told the rounds left and accepted",
+            ),
+            (
+                |tally| tally.told.0[10] = 0,
+                "told the rounds left and refused 10",
+            ),
+            (
+                |tally| tally.told.0[13] = 0,
+                "told the rounds left and refused 13",
+            ),
+            (
+                |tally| tally.last_rounds = 0,
+                "accepted with the last round left",
+            ),
+            (
+                |tally| tally.after_13 = 0,
+                "accepted after a drill refused 13",
+            ),
+            (|tally| tally.lessons.0[0] = 0, "a lesson that was run"),
+            (|tally| tally.lessons.0[3] = 0, "a lesson and refused 3"),
+            (|tally| tally.lessons.0[12] = 0, "a lesson and refused 12"),
+        ];
+        for (take, missed) in taken {
+            let mut tally = Tally::full();
+            take(&mut tally);
+            assert_eq!(tally.missing(), [missed]);
+        }
+    }
+
+    /// 12 and 13 are no number of a drill by itself, nor 12 of one that is told the rounds left, nor 4
+    /// to 11 and 13 of a lesson.
+    #[test]
+    fn a_kind_of_call_misses_no_number_that_it_cannot_give() {
+        let mut tally = Tally::full();
+        tally.alone.0[12..].fill(0);
+        tally.told.0[12] = 0;
+        tally.lessons.0[4..12].fill(0);
+        tally.lessons.0[13] = 0;
+        assert_eq!(tally.missing(), [""; 0]);
+    }
+}
