@@ -1,4 +1,4 @@
-//! Times of the proved library beside the plain matcher, on the same inputs in one run.
+//! Times of the proved library beside the plain and the quick matcher, on the same inputs in one run.
 
 use std::hint::black_box;
 use std::time::{Duration, Instant};
@@ -7,10 +7,11 @@ use crate::examples::{pulses, recording, with_runs};
 use crate::finder::{self, Returned, WORK_WORDS};
 use crate::lesson::PURSE;
 use crate::proved::{self, Proved};
+use crate::quick::QuickList;
 use crate::random::Rng;
 use crate::recording::{encode, tick, Change, Head, MAX_LENGTH, RECORD};
 use crate::zone::WORDS;
-use crate::zones::MAX_ZONES;
+use crate::zones::{Allowed, MAX_ZONES};
 
 /// One call to be timed.
 struct Row {
@@ -43,16 +44,21 @@ impl Row {
 /// Prints the tables, or says where the finders do not agree.
 pub fn run() -> Result<(), String> {
     let proved = proved::linked();
-    println!("Times in microseconds, the best of many calls, the two finders by turns.");
-    println!("Both work in the same buffers, which are not cleared before a call.");
-    println!("Both clear the first 16,384 work words themselves, which is part of every time.");
-    if proved.is_none() {
-        println!("The proved library is not linked (--features proved): plain times alone.");
-    }
+    println!("Times in microseconds, the best of many calls, the finders by turns.");
+    println!("All work in the same buffers, which are not cleared before a call.");
+    println!("All clear the first 16,384 work words themselves, which is part of every time.");
+    println!("The ratio is that of proved to plain.");
+    say_what_is_linked(proved);
     for (title, rows) in tables() {
         print_table(title, &rows, proved)?;
     }
     Ok(())
+}
+
+fn say_what_is_linked(proved: Option<Proved>) {
+    if proved.is_none() {
+        println!("The proved library is not linked (--features proved): plain and quick alone.");
+    }
 }
 
 fn tables() -> Vec<(&'static str, Vec<Row>)> {
@@ -68,35 +74,86 @@ fn tables() -> Vec<(&'static str, Vec<Row>)> {
         ("Growth with the changes", growth_with_changes()),
         ("Rises and falls", events()),
         ("Calls told the rounds left", told_rounds()),
+        ("Long lists, few pairs with a time in common", long_lists()),
     ]
+}
+
+/// The times of the finders, or what is made of them.
+#[derive(Clone, Copy)]
+struct Times {
+    plain: f64,
+    quick: f64,
+    proved: Option<f64>,
+}
+
+impl Times {
+    /// The same for all finders, of whom the proved one may be missing.
+    fn all(time: f64, proved: Option<Proved>) -> Times {
+        Times {
+            plain: time,
+            quick: time,
+            proved: proved.map(|_| time),
+        }
+    }
+
+    /// Each finder's two times made into one.
+    fn with(self, other: Times, join: impl Fn(f64, f64) -> f64) -> Times {
+        let proved = self.proved.zip(other.proved);
+        Times {
+            plain: join(self.plain, other.plain),
+            quick: join(self.quick, other.quick),
+            proved: proved.map(|(one, other)| join(one, other)),
+        }
+    }
+
+    fn times(self, factor: f64) -> Times {
+        self.with(self, |time, _| time * factor)
+    }
+
+    /// The last four columns: each finder's time, and proved by plain.
+    fn columns(self) -> String {
+        let Times {
+            plain,
+            quick,
+            proved,
+        } = self;
+        match proved {
+            Some(proved) => {
+                let ratio = proved / plain;
+                format!("{plain:>11.2} {quick:>11.2} {proved:>11.2} {ratio:>7.2}")
+            }
+            None => format!("{plain:>11.2} {quick:>11.2} {:>11} {:>7}", "-", "-"),
+        }
+    }
+}
+
+/// The heads of these columns.
+fn heads() -> String {
+    let [plain, quick, proved, ratio] = ["plain", "quick", "proved", "ratio"];
+    format!("{plain:>11} {quick:>11} {proved:>11} {ratio:>7}")
 }
 
 fn print_table(title: &str, rows: &[Row], proved: Option<Proved>) -> Result<(), String> {
     println!("\n{title}");
     println!(
-        "{:<44} {:>7} {:>5} {:>7} {:>11} {:>11} {:>7}",
-        "", "number", "zones", "rounds", "plain", "proved", "ratio"
+        "{:<44} {:>7} {:>5} {:>7} {}",
+        "",
+        "number",
+        "zones",
+        "rounds",
+        heads()
     );
-    let mut sums = (0.0, proved.map(|_| 0.0));
+    let mut sums = Times::all(0.0, proved);
     for row in rows {
-        let (plain, theirs) = print_row(row, proved)?;
-        sums.0 += plain;
-        sums.1 = sums.1.zip(theirs).map(|(sum, time)| sum + time);
+        let best = print_row(row, proved)?;
+        sums = sums.with(best, |sum, time| sum + time);
     }
-    println!("{:<44} {:>21} {}", "sum", "", times(sums));
+    println!("{:<44} {:>21} {}", "sum", "", sums.columns());
     Ok(())
 }
 
-/// The last three columns: both times in microseconds, and proved by plain.
-fn times((plain, theirs): (f64, Option<f64>)) -> String {
-    match theirs {
-        Some(theirs) => format!("{plain:>11.2} {theirs:>11.2} {:>7.2}", theirs / plain),
-        None => format!("{plain:>11.2} {:>11} {:>7}", "-", "-"),
-    }
-}
-
 /// Prints a row and gives its times.
-fn print_row(row: &Row, proved: Option<Proved>) -> Result<(f64, Option<f64>), String> {
+fn print_row(row: &Row, proved: Option<Proved>) -> Result<Times, String> {
     let mut bench = Bench::new(row);
     let returned = bench.agreed(proved)?;
     let best = by_turns(&mut bench, proved);
@@ -106,7 +163,7 @@ fn print_row(row: &Row, proved: Option<Proved>) -> Result<(f64, Option<f64>), St
         returned.number,
         returned.zones,
         returned.rounds,
-        times(best)
+        best.columns()
     );
     Ok(best)
 }
@@ -138,6 +195,18 @@ impl Bench<'_> {
         (returned, Some(left))
     }
 
+    fn quick(&mut self) -> (Returned, Option<u64>) {
+        let (recording, drill) = (&self.row.recording, self.row.drill.as_bytes());
+        let (answer, work) = (&mut self.answer, &mut self.work);
+        let mut allowed = Allowed {
+            rounds: self.row.left.unwrap_or(u64::MAX),
+            ..Allowed::ALL
+        };
+        let found = finder::call::<QuickList>(recording, drill, answer, work, &mut allowed);
+        let returned = found.expect("no drill takes as many pairs").returned;
+        (returned, self.row.left.map(|_| allowed.rounds))
+    }
+
     fn proved(&mut self, proved: Proved) -> (Returned, Option<u64>) {
         let (recording, drill) = (&self.row.recording, self.row.drill.as_bytes());
         let (answer, work) = (&mut self.answer, &mut self.work);
@@ -156,33 +225,41 @@ impl Bench<'_> {
         (returned, left)
     }
 
-    /// What both finders return, if they do the same.
+    /// What the finders return, if they do the same.
     fn agreed(&mut self, proved: Option<Proved>) -> Result<Returned, String> {
         let plain = self.plain();
-        let mut other = Bench::new(self.row);
-        if let Some(proved) = proved {
-            let theirs = other.proved(proved);
-            if theirs != plain || other.answer != self.answer {
-                return Err(format!("{}: {theirs:?}, not {plain:?}", self.row.name));
+        let check = |finder: &str, call: &dyn Fn(&mut Bench) -> (Returned, Option<u64>)| {
+            let mut other = Bench::new(self.row);
+            let theirs = call(&mut other);
+            if theirs == plain && other.answer == self.answer {
+                return Ok(());
             }
+            let name = &self.row.name;
+            Err(format!("{name}: {finder} {theirs:?}, not {plain:?}"))
+        };
+        check("quick", &|bench| bench.quick())?;
+        if let Some(proved) = proved {
+            check("proved", &|bench| bench.proved(proved))?;
         }
         Ok(plain.0)
     }
 }
 
-/// Calls each finder over and over, a few times one and then the other, and keeps the best time
-/// of each in microseconds. Both work in the same buffers: where a buffer stands in memory decides
+/// Calls each finder over and over, a few times one and then the next, and keeps the best time
+/// of each in microseconds. All work in the same buffers: where a buffer stands in memory decides
 /// how fast its 65,536 bytes are cleared, and that is most of a short call.
-fn by_turns(bench: &mut Bench, proved: Option<Proved>) -> (f64, Option<f64>) {
+fn by_turns(bench: &mut Bench, proved: Option<Proved>) -> Times {
     const TURNS: u32 = 5;
-    let mut best = [f64::INFINITY; 2];
+    let mut best = Times::all(f64::INFINITY, proved);
     for _ in 0..TURNS {
-        best[0] = best[0].min(best_of_many(|| bench.plain()));
-        if let Some(proved) = proved {
-            best[1] = best[1].min(best_of_many(|| bench.proved(proved)));
-        }
+        let turn = Times {
+            plain: best_of_many(|| bench.plain()),
+            quick: best_of_many(|| bench.quick()),
+            proved: proved.map(|proved| best_of_many(|| bench.proved(proved))),
+        };
+        best = best.with(turn, f64::min);
     }
-    (best[0], proved.map(|_| best[1]))
+    best
 }
 
 /// The best time of a call in microseconds. It stays a function of its own, so that the loop around the
@@ -211,7 +288,7 @@ fn accepted(make: impl Fn(&mut Rng) -> Vec<u8>, drills: &[&str]) -> Vec<u8> {
         let mut work = vec![0; WORK_WORDS];
         drills.iter().all(|drill| {
             let drill = drill.as_bytes();
-            finder::find_if_quick(recording, drill, &mut answer, &mut work, BUDGET)
+            finder::find_unless_slow(recording, drill, &mut answer, &mut work, BUDGET)
                 .is_some_and(|found| found.returned.is_accepted() && found.returned.zones > 0)
         })
     };
@@ -479,6 +556,55 @@ fn told_rounds() -> Vec<Row> {
     rows
 }
 
+/// Compositions of long lists in which most pairs, or all, have no time in common.
+fn long_lists() -> Vec<Row> {
+    let any = then_any_of(15);
+    let no_order = accepted(runs_in_no_order, &[&any]);
+    vec![
+        Row::new("a.(b|..|p), right list in no order", no_order, any),
+        Row {
+            name: format!("a.b, {MANY} runs each, all apart"),
+            ..apart_in_rising_time(MANY, MANY)
+        },
+        Row {
+            name: format!("a.(b|..|p), {MANY} and {MANY} runs, all apart"),
+            ..apart_in_no_order(MANY, MANY)
+        },
+        Row::new(
+            "((a|b){1,1}|c{2,}|d{0,1})*, 124 in a row",
+            neighbours_in_a_row(62),
+            "((a|b){1,1}|c{2,}|d{0,1})*",
+        ),
+    ]
+}
+
+/// About 120 short runs of the first channel, and 8 of each of the other fifteen, anywhere: some of
+/// them may come to lie side by side, and are one run then.
+fn runs_in_no_order(rng: &mut Rng) -> Vec<u8> {
+    let ticks = 2_000;
+    let mut runs_of = |runs: usize| -> Vec<(u32, u32)> {
+        let starts = switching_ticks(rng, runs, ticks - 2);
+        starts.iter().map(|&start| (start, start + 1)).collect()
+    };
+    let mut channels = vec![runs_of(MANY)];
+    channels.extend((1..16).map(|_| runs_of(RUNS_OF_A_LETTER)));
+    let channels: Vec<&[(u32, u32)]> = channels.iter().map(Vec::as_slice).collect();
+    with_runs(ticks, &channels)
+}
+
+/// Ticks in which `a` and `b` are high by turns, so many each, and `c` throughout: two neighbours make
+/// a stretch of two ticks, which `c{2,}` has already. Behind them `d` is high for 200 ticks, which
+/// `d{0,1}` takes as many rounds for.
+fn neighbours_in_a_row(each: u32) -> Vec<u8> {
+    let by_turns = |first: u32| (0..each).map(move |k| (2 * k + first, 2 * k + first + 1));
+    let [a, b] = [0, 1].map(|first| by_turns(first).collect::<Vec<_>>());
+    let last = 2 * each;
+    with_runs(
+        last + 205,
+        &[&a, &b, &[(0, last)], &[(last + 5, last + 205)]],
+    )
+}
+
 /// A drill that spends any number of rounds up to a whole purse over lists of one length.
 struct Spender {
     name: &'static str,
@@ -496,40 +622,41 @@ impl Spender {
         Row::new(self.name, self.recording.clone(), self.drill).told(rounds)
     }
 
-    /// Microseconds for one of the timed rounds, by both finders.
-    fn per_round(&self, proved: Option<Proved>) -> Result<(f64, Option<f64>), String> {
+    /// Microseconds for one of the timed rounds, by each finder.
+    fn per_round(&self, proved: Option<Proved>) -> Result<Times, String> {
         let (begin, end) = (
             self.stopped_after(self.first),
             self.stopped_after(self.first + self.timed),
         );
         let (begin, end) = (best_of_few(&begin, proved)?, best_of_few(&end, proved)?);
         let each = |begin: f64, end: f64| (end - begin) / self.timed as f64;
-        let theirs = begin.1.zip(end.1).map(|(begin, end)| each(begin, end));
-        Ok((each(begin.0, end.0), theirs))
+        Ok(begin.with(end, each))
     }
 }
 
 /// The best time of each finder in microseconds, for calls that take long.
-fn best_of_few(row: &Row, proved: Option<Proved>) -> Result<(f64, Option<f64>), String> {
+fn best_of_few(row: &Row, proved: Option<Proved>) -> Result<Times, String> {
     const CALLS: u32 = 3;
     let mut bench = Bench::new(row);
     let returned = bench.agreed(proved)?;
     if returned.number != 13 {
         return Err(format!("{}: {returned:?}, and is not stopped", row.name));
     }
-    let mut best = [f64::INFINITY; 2];
+    let mut best = Times::all(f64::INFINITY, proved);
     let timed = |call: &mut dyn FnMut() -> (Returned, Option<u64>)| {
         let start = Instant::now();
         black_box(call());
         start.elapsed().as_secs_f64() * 1e6
     };
     for _ in 0..CALLS {
-        best[0] = best[0].min(timed(&mut || bench.plain()));
-        if let Some(proved) = proved {
-            best[1] = best[1].min(timed(&mut || bench.proved(proved)));
-        }
+        let turn = Times {
+            plain: timed(&mut || bench.plain()),
+            quick: timed(&mut || bench.quick()),
+            proved: proved.map(|proved| timed(&mut || bench.proved(proved))),
+        };
+        best = best.with(turn, f64::min);
     }
-    Ok((best[0], proved.map(|_| best[1])))
+    Ok(best)
 }
 
 /// Lists from the shortest to the longest, each with a run on which the rounds do not end before a
@@ -578,24 +705,115 @@ fn spenders() -> Vec<Spender> {
 /// Prints what a round costs, and what all rounds of a sheet would cost at that.
 pub fn purse() -> Result<(), String> {
     let proved = proved::linked();
-    println!("A round in microseconds, and {PURSE} rounds in seconds.");
-    if proved.is_none() {
-        println!("The proved library is not linked (--features proved): plain times alone.");
-    }
-    println!(
-        "\n{:<46} {:>11} {:>11} {:>7} {:>9} {:>9}",
-        "", "plain", "proved", "ratio", "plain", "proved"
-    );
+    say_what_is_linked(proved);
+    let mut rounds = Vec::new();
     for spender in spenders() {
-        let (plain, theirs) = spender.per_round(proved)?;
-        let purse = |round: f64| format!("{:>9.3}", round * PURSE as f64 / 1e6);
-        println!(
-            "{:<46} {} {} {}",
-            spender.name,
-            times((plain, theirs)),
-            purse(plain),
-            theirs.map_or(format!("{:>9}", "-"), purse)
-        );
+        rounds.push((spender.name, spender.per_round(proved)?));
+    }
+    println!("\n{:<46} {}", "A round, in microseconds", heads());
+    for (name, round) in &rounds {
+        println!("{name:<46} {}", round.columns());
+    }
+    let purse = format!("{PURSE} rounds, in milliseconds");
+    println!("\n{purse:<46} {}", heads());
+    for (name, round) in rounds {
+        println!("{name:<46} {}", round.times(PURSE as f64 / 1e3).columns());
+    }
+    Ok(())
+}
+
+/// Compositions of two lists in which no pair has a time in common.
+struct Apart {
+    name: &'static str,
+    /// The composition of so many zones with so many others.
+    row: fn(usize, usize) -> Row,
+}
+
+/// The sizes of both lists.
+const FEW: usize = 32;
+const MANY: usize = 120;
+
+impl Apart {
+    /// Nanoseconds for a pair, by each finder.
+    ///
+    /// What a call does for one list alone, reading it or putting its zones, costs the same whatever
+    /// the other list is. So it cancels out where the right list grows once beside a long left list
+    /// and once beside a short one: what is left is the cost of the pairs that only the former has.
+    fn per_pair(&self, proved: Option<Proved>) -> Result<Times, String> {
+        let best = |left: usize, right: usize| {
+            let row = (self.row)(left, right);
+            let mut bench = Bench::new(&row);
+            let returned = bench.agreed(proved)?;
+            match (returned.number, returned.zones) {
+                (0, 0) => Ok(by_turns(&mut bench, proved)),
+                _ => Err(format!("{}: {returned:?}, and is not apart", self.name)),
+            }
+        };
+        let growth = |left: usize| {
+            let (few, many) = (best(left, FEW)?, best(left, MANY)?);
+            Ok::<Times, String>(many.with(few, |many, few| many - few))
+        };
+        let pairs = (MANY - FEW) * (MANY - FEW);
+        let grown = growth(MANY)?.with(growth(FEW)?, |many, few| many - few);
+        Ok(grown.times(1e3 / pairs as f64))
+    }
+}
+
+/// So many runs of two ticks, ten apart: those from different ticks below five and from five on have
+/// no time in common.
+fn slots(runs: usize, first: u32) -> impl Iterator<Item = (u32, u32)> {
+    (0..runs as u32).map(move |k| (10 * k + first, 10 * k + first + 2))
+}
+
+fn apart_in_rising_time(left: usize, right: usize) -> Row {
+    let (a, b): (Vec<_>, Vec<_>) = (slots(left, 0).collect(), slots(right, 5).collect());
+    Row::new("", with_runs(10 * MANY as u32, &[&a, &b]), "a.b")
+}
+
+/// The right list takes the letters one after the other, and each of them goes from the start of the
+/// drive to its end.
+fn apart_in_no_order(left: usize, right: usize) -> Row {
+    let a: Vec<_> = slots(left, 0).collect();
+    let letters = right / RUNS_OF_A_LETTER;
+    let of_letter = |k: usize| slots(MANY, 5).skip(k).step_by(MANY / RUNS_OF_A_LETTER);
+    let runs: Vec<Vec<_>> = (0..letters).map(|k| of_letter(k).collect()).collect();
+    let mut channels: Vec<&[(u32, u32)]> = vec![&a];
+    channels.extend(runs.iter().map(Vec::as_slice));
+    let recording = with_runs(10 * MANY as u32, &channels);
+    Row::new("", recording, then_any_of(letters))
+}
+
+/// Runs of each letter of a right list in no order: half a block, so that a block goes through the
+/// whole drive twice.
+const RUNS_OF_A_LETTER: usize = 8;
+
+/// `a`, then any of so many letters.
+fn then_any_of(letters: usize) -> String {
+    let letters: Vec<String> = ('b'..='p').take(letters).map(String::from).collect();
+    format!("a.({})", letters.join("|"))
+}
+
+fn all_apart() -> [Apart; 2] {
+    [
+        Apart {
+            name: "right list in rising time",
+            row: apart_in_rising_time,
+        },
+        Apart {
+            name: "right list in no order",
+            row: apart_in_no_order,
+        },
+    ]
+}
+
+/// Prints what a pair without a time in common costs.
+pub fn pairs() -> Result<(), String> {
+    let proved = proved::linked();
+    say_what_is_linked(proved);
+    println!("\n{:<46} {}", "A pair apart, in nanoseconds", heads());
+    for apart in all_apart() {
+        let pair = apart.per_pair(proved)?;
+        println!("{:<46} {}", apart.name, pair.columns());
     }
     Ok(())
 }
@@ -612,6 +830,52 @@ mod tests {
                 let row = spender.stopped_after(rounds);
                 let (returned, left) = Bench::new(&row).plain();
                 assert_eq!((returned.number, left), (13, Some(0)), "{}", spender.name);
+            }
+        }
+    }
+
+    /// The pairs that each composition and round of an accepted row composes.
+    fn pairs_of(row: &Row) -> Vec<usize> {
+        let mut answer = vec![0; MAX_ZONES * WORDS];
+        let mut work = vec![0; WORK_WORDS];
+        let (recording, drill) = (&row.recording, row.drill.as_bytes());
+        let mut allowed = Allowed::ALL;
+        let found =
+            finder::call::<QuickList>(recording, drill, &mut answer, &mut work, &mut allowed);
+        let found = found.expect("pairs enough");
+        assert!(found.returned.is_accepted(), "{}", row.name);
+        found.told
+    }
+
+    /// By hand, of the pieces of one tick, in a row of 124: each but the last touches the next; each
+    /// but the last two may be followed by two ticks or more, and each but the first two may follow
+    /// them; two ticks or more may follow such; and the piece of `d` follows itself.
+    #[test]
+    fn long_lists_have_few_pairs_with_a_time_in_common() {
+        let [no_order, apart, apart_in_no_order, in_a_row] = &long_lists()[..] else {
+            panic!("four rows");
+        };
+        let [few] = pairs_of(no_order)[..] else {
+            panic!("one composition");
+        };
+        assert!((5..100).contains(&few), "{few}");
+        assert_eq!(pairs_of(apart), [0]);
+        assert_eq!(pairs_of(apart_in_no_order), [0]);
+        assert_eq!(pairs_of(in_a_row), [123 + 122 + 122 + 1 + 1; 200]);
+    }
+
+    #[test]
+    fn lists_of_both_sizes_are_apart() {
+        for apart in all_apart() {
+            for (left, right) in [(FEW, FEW), (FEW, MANY), (MANY, FEW), (MANY, MANY)] {
+                let row = (apart.row)(left, right);
+                assert_eq!(pairs_of(&row), [0], "{} {left} {right}", apart.name);
+                let lists = [("a", left), (row.drill.trim_start_matches("a."), right)];
+                for (drill, zones) in lists {
+                    let alone = Row::new("", row.recording.clone(), drill);
+                    let (returned, _) = Bench::new(&alone).plain();
+                    assert_eq!((returned.number, returned.zones), (0, zones as u64));
+                }
             }
         }
     }

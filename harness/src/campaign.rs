@@ -1,9 +1,10 @@
-//! The campaign: the proved library, the plain matcher and brute force on random inputs, until
+//! The campaign: the proved library, the two plain matchers and brute force on random inputs, until
 //! the time is over or something does not agree.
 
 use std::time::{Duration, Instant};
 
 use crate::brute;
+use crate::by_times::TriedList;
 use crate::compare::{Call, Chain, Outcome, Sheet};
 use crate::drill::Drill;
 use crate::finder::{self, Found, Returned, WORK_WORDS};
@@ -20,6 +21,10 @@ use crate::zones::{Star, MAX_ZONES};
 
 /// The longest drive, in ticks, that goes through brute force.
 const MAX_BRUTE_TICKS: u32 = 12;
+/// The longest drive, in ticks, on which all times are tried for each pair of two lists, and the most
+/// compositions and rounds of one drill on such a drive, if it is too long for brute force.
+const MAX_TRIED_TICKS: u32 = 1_000;
+const MAX_TRIED: usize = 8;
 /// Pairs of zones that the rounds of one drill may compose; the few cases with a drill above it are
 /// passed over.
 const MOST_PAIRS: u64 = 400_000;
@@ -51,8 +56,8 @@ impl Campaign {
             return Err(format!("no call was {}: {tally}", missing.join(", ")));
         }
         let subject = match proved {
-            Some(_) => "proved library, plain matcher and brute force agree",
-            None => "no proved library linked; plain matcher and brute force agree",
+            Some(_) => "proved library, plain and quick matcher and brute force agree",
+            None => "no proved library linked; plain and quick matcher and brute force agree",
         };
         Ok(format!("seed {}: {subject}: {tally}", self.seed))
     }
@@ -113,6 +118,10 @@ fn compare_call(
         ));
     }
     lent.check_after(&outcome.after, found.returned)?;
+    let quick = call.compare_quick(None, &outcome)?;
+    if quick.stars != found.stars {
+        return Err("the quick matcher has other stars".into());
+    }
     if let Some(proved) = proved {
         call.compare(None, &outcome, proved)?;
         compare_front(rng, lent, found.returned, proved)?;
@@ -128,15 +137,37 @@ fn compare_call(
         let left = rounds_about(rng, finished);
         note_told(&call.compare_told(left, &outcome, proved)?, tally);
     }
+    if rng.once_in(4) {
+        compare_pairs(&call, &quick.told, tally)?;
+    }
     Ok(())
 }
 
-/// The plain matcher on a drill by itself, if it is quick.
+/// The pairs that the quick matcher composed, in each finished composition and round, against those
+/// for which trying times finds one in common.
+fn compare_pairs(call: &Call, composed: &[usize], tally: &mut Tally) -> Result<(), String> {
+    // Of a wrong recording there are no lists.
+    let ticks = Recording::read(call.recording).map_or(0, |recording| recording.ticks());
+    let is_short = ticks <= MAX_BRUTE_TICKS;
+    if !is_short && (ticks > MAX_TRIED_TICKS || composed.len() > MAX_TRIED) {
+        return Ok(());
+    }
+    let (_, tried) = call.with_lists::<TriedList>(None);
+    let counted = tried.told.iter().map(|counted| counted.pairs);
+    if !counted.eq(composed.iter().copied()) {
+        let tried = tried.told;
+        return Err(format!("quick composed {composed:?} pairs of {tried:?}"));
+    }
+    tally.note_pairs(&tried.told);
+    Ok(())
+}
+
+/// The plain matcher on a drill by itself, unless it is slow.
 fn find(input: &Input, lent: &Lent) -> Option<(Found, Outcome)> {
     let mut after = lent.clone();
     let (answer, work) = after.lend();
     let Input { recording, drill } = input;
-    let found = finder::find_if_quick(recording, drill, answer, work, MOST_PAIRS)?;
+    let found = finder::find_unless_slow(recording, drill, answer, work, MOST_PAIRS)?;
     let outcome = Outcome {
         returned: found.returned,
         left: None,
@@ -207,7 +238,7 @@ fn chain_case(rng: &mut Rng, proved: Option<Proved>, tally: &mut Tally) -> Resul
     let input = inputs::chain(rng);
     let drills: Vec<&[u8]> = input.drills.iter().map(Vec::as_slice).collect();
     let lent = lent_to_several(rng);
-    if !are_quick(&input.recording, &drills) {
+    if !none_is_slow(&input.recording, &drills) {
         tally.passed_over += 1;
         return Ok(());
     }
@@ -256,11 +287,11 @@ fn note_chain(outcomes: &[Outcome], tally: &mut Tally) {
 }
 
 /// Whether no drill takes too long.
-fn are_quick(recording: &[u8], drills: &[&[u8]]) -> bool {
+fn none_is_slow(recording: &[u8], drills: &[&[u8]]) -> bool {
     let mut answer = [0; MAX_ZONES * WORDS];
     let mut work = [0; WORK_WORDS];
     drills.iter().all(|drill| {
-        let found = finder::find_if_quick(recording, drill, &mut answer, &mut work, MOST_PAIRS);
+        let found = finder::find_unless_slow(recording, drill, &mut answer, &mut work, MOST_PAIRS);
         found.is_some()
     })
 }
@@ -271,7 +302,7 @@ fn lesson_case(rng: &mut Rng, proved: Option<Proved>, tally: &mut Tally) -> Resu
     let lent = lent_to_several(rng);
     let room = LESSON_ROOM + *rng.pick(&[0, 0, 1, 999]);
     let drills = lesson::drills(&input.text).unwrap_or_default();
-    if !are_quick(&input.recording, &drills) {
+    if !none_is_slow(&input.recording, &drills) {
         tally.passed_over += 1;
         return Ok(());
     }

@@ -735,12 +735,30 @@ fn events_refused() -> Vec<Case> {
 #[cfg(test)]
 mod tests {
     use super::*;
+    use crate::finder::call;
+    use crate::quick::QuickList;
+    use crate::zones::Allowed;
 
     #[test]
     fn the_matchers_agree_on_every_case() {
         let text = output(&all()).expect("agreement");
         for number in 0..=11 {
             assert!(text.contains(&format!("\nreturned {number} ")), "{number}");
+        }
+    }
+
+    #[test]
+    fn the_quick_matcher_agrees_on_every_case() {
+        for case in all() {
+            let called = case.call();
+            let (mut answer, mut work) = (called.answer_before, called.work_before);
+            let (recording, drill) = (&case.recording, &case.drill);
+            let mut allowed = Allowed::ALL;
+            let quick = call::<QuickList>(recording, drill, &mut answer, &mut work, &mut allowed);
+            let name = drill.escape_ascii();
+            let returned = quick.map(|found| found.returned);
+            assert_eq!(returned, Some(called.returned), "{name}");
+            assert!(answer == called.answer && work == called.work, "{name}");
         }
     }
 

@@ -1,12 +1,14 @@
-//! Calls of the plain matcher, held to the papers, and to what the proved library makes of them:
-//! numbers, counts, the rounds left, what is printed, and every word of both buffers and of the
-//! margins around them.
+//! Calls of the plain matcher, held to the papers, and to what the quick matcher and the proved
+//! library make of them: numbers, counts, the rounds left, what is printed, and every word of both
+//! buffers and of the margins around them.
 
 use crate::brute;
-use crate::finder::{self, Returned};
+use crate::finder::{self, Found, Returned};
 use crate::lent::{Lent, MARGIN};
 use crate::lesson::{self, Lesson};
 use crate::proved::{Proved, LESSON_ROOM, NO_ROOM};
+use crate::quick::QuickList;
+use crate::zones::{Allowed, ZoneList};
 
 /// A call on one drill. Its methods take the rounds left that it is told, none where the drill is
 /// run by itself.
@@ -49,6 +51,36 @@ impl Call<'_> {
             left,
             after,
         }
+    }
+
+    /// The call with lists of any kind, and all that is found on the way.
+    pub fn with_lists<L: ZoneList>(&self, left: Option<u64>) -> (Outcome, Found<L::Told>) {
+        let mut after = self.lent.clone();
+        let (answer, work) = after.lend();
+        let mut allowed = Allowed {
+            rounds: left.unwrap_or(u64::MAX),
+            ..Allowed::ALL
+        };
+        let found = finder::call::<L>(self.recording, self.drill, answer, work, &mut allowed);
+        let found = found.expect("no drill takes as many pairs");
+        let outcome = Outcome {
+            returned: found.returned,
+            left: left.map(|_| allowed.rounds),
+            after,
+        };
+        (outcome, found)
+    }
+
+    /// The quick matcher must return the same and leave the same as the plain one. Gives what it
+    /// finds, the pairs that it composes among it.
+    pub fn compare_quick(
+        &self,
+        left: Option<u64>,
+        plain: &Outcome,
+    ) -> Result<Found<usize>, String> {
+        let (quick, found) = self.with_lists::<QuickList>(left);
+        quick.check_same("quick", plain)?;
+        Ok(found)
     }
 
     /// The returned number of the proved library, the rounds left and both buffers afterwards.
@@ -96,11 +128,7 @@ impl Call<'_> {
             left: left_after,
             after,
         };
-        if (theirs.returned, theirs.left) != (plain.returned, plain.left) {
-            let (theirs, plain) = (theirs.told(), plain.told());
-            return Err(format!("proved returned {theirs}, plain {plain}"));
-        }
-        theirs.after.check_equal(&plain.after)?;
+        theirs.check_same("proved", plain)?;
         self.compare_without_room(left, proved)
     }
 
@@ -134,7 +162,7 @@ impl Call<'_> {
     }
 
     /// The drill told the rounds left, through everything that has an opinion on it: the papers, by
-    /// way of what the drill comes to by itself, and the proved library.
+    /// way of what the drill comes to by itself, the quick matcher, and the proved library.
     pub fn compare_told(
         &self,
         left: u64,
@@ -144,7 +172,8 @@ impl Call<'_> {
         let outcome = self.plain(Some(left));
         let theirs = |proved| self.compare(Some(left), &outcome, proved);
         self.check_told(left, &outcome, alone)
-            .and_then(|()| proved.map_or(Ok(()), theirs))
+            .and_then(|()| self.compare_quick(Some(left), &outcome))
+            .and_then(|_| proved.map_or(Ok(()), theirs))
             .map_err(|fault| format!("told {left} rounds: {fault}"))?;
         Ok(outcome)
     }
@@ -184,6 +213,15 @@ impl Outcome {
         same && left >= finished && self.left == Some(left - finished)
     }
 
+    /// Whether another finder's call came to the same as the plain matcher's.
+    fn check_same(&self, finder: &str, plain: &Outcome) -> Result<(), String> {
+        if (self.returned, self.left) != (plain.returned, plain.left) {
+            let (theirs, plain) = (self.told(), plain.told());
+            return Err(format!("{finder} returned {theirs}, plain {plain}"));
+        }
+        self.after.check_equal(finder, &plain.after)
+    }
+
     /// What is returned, in words.
     fn told(&self) -> String {
         let returned = self.returned;
@@ -204,7 +242,8 @@ pub struct Chain<'a> {
 }
 
 impl Chain<'_> {
-    /// Each call of the chain by the plain matcher, by the papers, and by the proved library.
+    /// Each call of the chain by the plain matcher, by the papers, by the quick matcher, and by the
+    /// proved library.
     pub fn compare(&self, proved: Option<Proved>) -> Result<Vec<Outcome>, String> {
         let mut outcomes: Vec<Outcome> = Vec::new();
         let mut left = self.purse;
@@ -346,7 +385,7 @@ impl Sheet<'_> {
         if !is_unwritten(behind) {
             return Err("proved wrote behind what it printed".into());
         }
-        called.after.check_equal(after)?;
+        called.after.check_equal("proved", after)?;
         self.compare_without_room(proved)
     }
 

@@ -4,7 +4,7 @@ use crate::drill::Drill;
 use crate::recording::Recording;
 use crate::refusal::Refusal;
 use crate::zone::{Zone, WORDS};
-use crate::zones::{Allowed, List, Matcher, Star, Stop};
+use crate::zones::{Allowed, List, Matcher, Star, Stop, ZoneList};
 
 /// Words that the work buffer must have, and that are zero once a list was begun.
 pub const WORK_WORDS: usize = 16_384;
@@ -34,22 +34,25 @@ impl Returned {
 
 /// What a call came to, with what a caller does not see.
 #[derive(Clone, Debug)]
-pub struct Found {
+pub struct Found<Told = ()> {
     pub returned: Returned,
     /// The stars of an accepted drill.
     pub stars: Vec<Star>,
+    /// What each finished composition of two lists and each finished round told, in the order in which
+    /// they were finished, whether or not the drill is accepted.
+    pub told: Vec<Told>,
 }
 
 /// Finds all stretches of the recording that fit the drill, however many rounds that takes.
 pub fn find(recording: &[u8], drill: &[u8], answer: &mut [i32], work: &mut [i32]) -> Returned {
     let mut allowed = Allowed::ALL;
-    let found = call(recording, drill, answer, work, &mut allowed);
+    let found = call::<List>(recording, drill, answer, work, &mut allowed);
     found.expect("no drill takes as many pairs").returned
 }
 
-/// The same call, given up with nothing written where the rounds would compose more pairs of
+/// The same call, given up with nothing written where the rounds would go through more pairs of
 /// zones than `pairs`.
-pub fn find_if_quick(
+pub fn find_unless_slow(
     recording: &[u8],
     drill: &[u8],
     answer: &mut [i32],
@@ -60,7 +63,7 @@ pub fn find_if_quick(
         pairs,
         ..Allowed::ALL
     };
-    call(recording, drill, answer, work, &mut allowed)
+    call::<List>(recording, drill, answer, work, &mut allowed)
 }
 
 /// The call of a drill that is told the rounds left before it, and gives back those left after it:
@@ -76,30 +79,43 @@ pub fn find_with_rounds(
         rounds: left,
         ..Allowed::ALL
     };
-    let found = call(recording, drill, answer, work, &mut allowed);
+    let found = call::<List>(recording, drill, answer, work, &mut allowed);
     let returned = found.expect("no drill takes as many pairs").returned;
     (returned, allowed.rounds)
 }
 
-/// Any of these calls: what it came to, with what is left of `allowed`, or nothing where it is too
-/// slow.
-fn call(
+/// Any of these calls, with lists of any kind: what it came to, with what is left of `allowed`, or
+/// nothing where it is too slow.
+pub fn call<L: ZoneList>(
     recording: &[u8],
     drill: &[u8],
     answer: &mut [i32],
     work: &mut [i32],
     allowed: &mut Allowed,
-) -> Option<Found> {
-    match evaluate(recording, drill, answer.len(), work.len(), allowed) {
+) -> Option<Found<L::Told>> {
+    let mut told = Vec::new();
+    let (answer_words, work_words) = (answer.len(), work.len());
+    match evaluate::<L>(
+        recording,
+        drill,
+        answer_words,
+        work_words,
+        allowed,
+        &mut told,
+    ) {
         Ok((list, stars)) => {
             clear(work);
-            write(&list, answer);
+            write(list.zones(), answer);
             let returned = Returned {
                 number: 0,
                 zones: list.zones().len() as u64,
                 rounds: stars.iter().map(|star| star.rounds).sum(),
             };
-            Some(Found { returned, stars })
+            Some(Found {
+                returned,
+                stars,
+                told,
+            })
         }
         Err(Stop::Refused(refusal)) => {
             if refusal.clears_work() {
@@ -108,6 +124,7 @@ fn call(
             Some(Found {
                 returned: Returned::refused(refusal),
                 stars: Vec::new(),
+                told,
             })
         }
         Err(Stop::TooSlow) => None,
@@ -132,22 +149,24 @@ pub fn listed(returned: Returned, answer: &[i32]) -> Vec<Zone> {
 
 /// All that recording, drill, the lengths of the buffers and what is allowed decide: 1 to 9 in the
 /// order of their numbers, then 10 or 13, whichever the lists come to first, and last 11. The rounds
-/// of a drill are spent whatever comes of it.
-fn evaluate(
+/// of a drill are spent, and what was finished has told its number, whatever comes of it.
+fn evaluate<L: ZoneList>(
     recording: &[u8],
     drill: &[u8],
     answer_words: usize,
     work_words: usize,
     allowed: &mut Allowed,
-) -> Result<(List, Vec<Star>), Stop> {
+    told: &mut Vec<L::Told>,
+) -> Result<(L, Vec<Star>), Stop> {
     let recording = Recording::read(recording).map_err(|fault| fault.refusal)?;
     let drill = Drill::read(drill, recording.channels())?;
     if work_words < WORK_WORDS {
         return Err(Refusal::WorkShort.into());
     }
-    let mut matcher = Matcher::new(&recording, *allowed);
+    let mut matcher = Matcher::<L>::new(&recording, *allowed);
     let list = matcher.list(&drill);
     *allowed = matcher.left();
+    *told = matcher.take_told();
     let list = list?;
     if answer_words < WORDS * list.zones().len() {
         return Err(Refusal::AnswerShort.into());
@@ -159,8 +178,8 @@ fn clear(work: &mut [i32]) {
     work[..WORK_WORDS].fill(0);
 }
 
-fn write(list: &List, answer: &mut [i32]) {
-    for (words, zone) in answer.chunks_exact_mut(WORDS).zip(list.zones()) {
+fn write(zones: &[Zone], answer: &mut [i32]) {
+    for (words, zone) in answer.chunks_exact_mut(WORDS).zip(zones) {
         words.copy_from_slice(zone.words());
     }
 }

@@ -58,10 +58,15 @@ impl Lent {
         Ok(())
     }
 
-    /// What the proved library left, word for word, margins included, against the plain matcher's.
-    pub fn check_equal(&self, plain: &Lent) -> Result<(), String> {
-        differ("answer", &self.answer, &plain.answer)?;
-        differ("work", &self.work, &plain.work)
+    /// What another finder left, word for word, margins included, against the plain matcher's.
+    pub fn check_equal(&self, finder: &str, plain: &Lent) -> Result<(), String> {
+        let buffers = [
+            ("answer", &self.answer, &plain.answer),
+            ("work", &self.work, &plain.work),
+        ];
+        buffers.into_iter().try_for_each(|(name, theirs, plain)| {
+            differ(name, theirs, plain).map_err(|fault| format!("{finder} left {fault}"))
+        })
     }
 }
 
@@ -79,8 +84,6 @@ fn differ(name: &str, theirs: &[i32], plain: &[i32]) -> Result<(), String> {
     first.map_or(Ok(()), |at| {
         let (theirs, plain) = (theirs[at], plain[at]);
         let word = at as i64 - MARGIN as i64;
-        Err(format!(
-            "proved left {theirs} in {name} word {word}, plain {plain}"
-        ))
+        Err(format!("{theirs} in {name} word {word}, plain {plain}"))
     })
 }

@@ -1,15 +1,17 @@
 //! A second drill finder, written from the papers alone, and what the proved one is compared
 //! with it by.
 //!
-//! Two matchers stand beside each other. [`zones`] follows document 01's rules for lists of
+//! Three matchers stand beside each other. [`zones`] follows document 01's rules for lists of
 //! zones, on plain words and fast: it must agree with the proved library byte for byte, and is
-//! what that one is timed against. [`brute`] knows nothing of zones and tries fractions, so that
-//! both are held to the meaning of a drill.
+//! what that one is timed against. [`quick`] does the same without composing pairs that have no time
+//! in common. [`brute`] knows nothing of zones and tries fractions, so that all are held to the
+//! meaning of a drill.
 
 #![deny(unsafe_code)]
 
 pub mod bench;
 pub mod brute;
+pub mod by_times;
 pub mod campaign;
 pub mod cases;
 pub mod compare;
@@ -24,6 +26,7 @@ pub mod named_calls;
 pub mod named_sheets;
 pub mod program;
 pub mod proved;
+pub mod quick;
 pub mod random;
 pub mod recording;
 pub mod refusal;

@@ -22,6 +22,8 @@ usage:
       time the finders on the same inputs
   harness purse
       time the rounds of a sheet, over short lists and long ones
+  harness pairs
+      time a pair of zones without a time in common
   harness cases [--write-input PATH] [--write-output PATH]
       the executed cases: their input, and the output that is expected of them (printed where no
       path is given)
@@ -30,7 +32,7 @@ usage:
   harness lesson PROGRAM
       run the program `lesson` on named sheets of drills, whose numbers and rounds are known
 
-Built with --features proved, campaign, bench, purse and lesson also call the proved library.
+Built with --features proved, campaign, bench, purse, pairs and lesson also call the proved library.
 ";
 
 fn main() -> ExitCode {
@@ -56,6 +58,7 @@ enum Command<'a> {
     Campaign(Campaign),
     Bench,
     Purse,
+    Pairs,
     Cases {
         input: Option<&'a str>,
         output: Option<&'a str>,
@@ -82,6 +85,7 @@ fn command<'a>(words: &[&'a str]) -> Result<Command<'a>, String> {
         "campaign" => campaign_options(rest),
         "bench" => exactly([], rest).map(|[]| Command::Bench),
         "purse" => exactly([], rest).map(|[]| Command::Purse),
+        "pairs" => exactly([], rest).map(|[]| Command::Pairs),
         "cases" => cases_options(rest),
         "marks" => exactly(["PROGRAM"], rest).map(|[program]| Command::Marks { program }),
         "lesson" => exactly(["PROGRAM"], rest).map(|[program]| Command::Lesson { program }),
@@ -158,6 +162,7 @@ fn run(command: Command) -> Result<(), String> {
         Command::Campaign(campaign) => println!("{}", campaign.run()?),
         Command::Bench => bench::run()?,
         Command::Purse => bench::purse()?,
+        Command::Pairs => bench::pairs()?,
         Command::Cases { input, output } => write_cases(input, output)?,
         Command::Marks { program } => println!("{}", marks::run(program)?),
         Command::Lesson { program } => println!("{}", named_sheets::run(program)?),

@@ -2,7 +2,9 @@
 
 use std::fmt;
 
+use crate::by_times::Counted;
 use crate::finder::Found;
+use crate::quick::BLOCK;
 use crate::refusal::Refusal;
 
 /// Calls by returned number, 0 being acceptance.
@@ -70,6 +72,12 @@ pub struct Tally {
     pub after_13: u64,
     /// Whole lessons.
     pub lessons: Numbers,
+    /// Finished compositions and rounds whose pairs were counted by trying times.
+    counted: u64,
+    /// Those of them with pairs of both kinds, with and without a time in common.
+    mixed: u64,
+    /// Those of these whose right list has more than one block.
+    in_blocks: u64,
     pub stretches: usize,
     pub passed_over: u64,
 }
@@ -81,6 +89,15 @@ impl Tally {
         self.stars += found.stars.len() as u64;
         let rounds = found.stars.iter().map(|star| star.rounds).max();
         self.most_rounds = self.most_rounds.max(rounds.unwrap_or(0));
+    }
+
+    pub fn note_pairs(&mut self, counted: &[Counted]) {
+        for one in counted {
+            let mixed = 0 < one.pairs && one.pairs < one.left * one.right;
+            self.counted += 1;
+            self.mixed += u64::from(mixed);
+            self.in_blocks += u64::from(mixed && one.right > BLOCK);
+        }
     }
 
     /// What came up in no call, of the refusals and of what accepted calls must show.
@@ -103,6 +120,8 @@ impl Tally {
             (self.last_rounds, "accepted with the last round left"),
             (self.after_13, "accepted after a drill refused 13"),
             (self.lessons.accepted(), "a lesson that was run"),
+            (self.mixed, "composed with pairs of both kinds"),
+            (self.in_blocks, "composed with several blocks"),
         ];
         for (count, what) in others {
             if count == 0 {
@@ -125,6 +144,9 @@ impl Tally {
             last_rounds: 1,
             after_13: 1,
             lessons: Numbers([1; Refusal::NUMBERS]),
+            counted: 1,
+            mixed: 1,
+            in_blocks: 1,
             ..Tally::default()
         }
     }
@@ -165,10 +187,15 @@ impl fmt::Display for Tally {
         )?;
         write!(
             out,
-            "{} lessons, run {}, {}; {} stretches compared, {} cases passed over for time",
+            "{} lessons, run {}, {}; the pairs of {} compositions and rounds counted ({} of them with \
+             pairs of both kinds, {} of these with several blocks); {} stretches compared, {} cases \
+             passed over for time",
             self.lessons.total(),
             self.lessons.accepted(),
             self.lessons.each(Refusal::OF_LESSON),
+            self.counted,
+            self.mixed,
+            self.in_blocks,
             self.stretches,
             self.passed_over,
         )
@@ -184,7 +211,7 @@ mod tests {
     fn a_campaign_misses_what_never_came_up() {
         assert_eq!(Tally::full().missing(), [""; 0]);
         type Take = fn(&mut Tally);
-        let taken: [(Take, &str); 14] = [
+        let taken: [(Take, &str); 16] = [
             (|tally| tally.alone.0[1] = 0, "refused 1"),
             (|tally| tally.alone.0[11] = 0, "refused 11"),
             (
@@ -226,6 +253,8 @@ mod tests {
             (|tally| tally.lessons.0[0] = 0, "a lesson that was run"),
             (|tally| tally.lessons.0[3] = 0, "a lesson and refused 3"),
             (|tally| tally.lessons.0[12] = 0, "a lesson and refused 12"),
+            (|tally| tally.mixed = 0, "composed with pairs of both kinds"),
+            (|tally| tally.in_blocks = 0, "composed with several blocks"),
         ];
         for (take, missed) in taken {
             let mut tally = Tally::full();

@@ -34,6 +34,39 @@ fn apart(limit: i32, minus_limit: i32) -> bool {
     sum(limit, minus_limit) < 1
 }
 
+/// Whether a quantity, given in parts of a tick, keeps to a limit.
+fn keeps(word: i32, quantity: i64, parts: i64) -> bool {
+    let (limit, is_reached) = (i64::from(word >> 1) * parts, word & 1 == 1);
+    quantity < limit || (is_reached && quantity == limit)
+}
+
+/// The times that an upper limit on a time and one on its negation leave.
+#[derive(Clone, Copy, Debug, PartialEq, Eq)]
+pub struct Range {
+    pub limit: i32,
+    pub minus_limit: i32,
+}
+
+impl Range {
+    /// Whether some time lies in both ranges, neither of which is empty.
+    ///
+    /// The upper limit of one range is v or less and the lower limit of the other -w or more. They
+    /// leave a time where v + w is above 0, reached or not, since between two whole ticks there are
+    /// others; and where v + w is 0 they leave one just if both are reached. Their words are 2v and
+    /// 2w, one more for each that is reached, so their sum is 2 or more in just these cases. Ranges
+    /// have no gaps: where the upper limit of either leaves a time with the lower limit of the
+    /// other, all four do.
+    #[inline(always)]
+    pub fn shares(self, other: Range) -> bool {
+        self.limit + other.minus_limit >= 2 && self.minus_limit + other.limit >= 2
+    }
+
+    /// Whether a time lies in the range, given in parts of a tick.
+    pub fn has(self, time: i64, parts: i64) -> bool {
+        keeps(self.limit, time, parts) && keeps(self.minus_limit, -time, parts)
+    }
+}
+
 impl Zone {
     /// The stretches inside a run: s ≤ start, end ≤ e and start < end, for s < e.
     pub fn run(s: i32, e: i32) -> Zone {
@@ -80,6 +113,21 @@ impl Zone {
         &self.0
     }
 
+    /// The starts of the zone's stretches: the zone is tight, so each time that the limits leave is
+    /// one.
+    #[inline(always)]
+    pub fn starts(&self) -> Range {
+        let [limit, minus_limit, ..] = self.0;
+        Range { limit, minus_limit }
+    }
+
+    /// The ends of the zone's stretches.
+    #[inline(always)]
+    pub fn ends(&self) -> Range {
+        let [_, _, limit, minus_limit, ..] = self.0;
+        Range { limit, minus_limit }
+    }
+
     /// Whether each stretch of the other zone is one of this zone: both being tight, whether each
     /// limit is at least the other's.
     #[inline(always)]
@@ -92,14 +140,12 @@ impl Zone {
     /// Whether a stretch lies in the zone, its ends given in parts of a tick.
     pub fn has(&self, start: i64, end: i64, parts: i64) -> bool {
         let quantities = [start, -start, end, -end, end - start, start - end];
-        self.0.iter().zip(quantities).all(|(&word, quantity)| {
-            let (limit, is_reached) = (i64::from(word >> 1) * parts, word & 1 == 1);
-            quantity < limit || (is_reached && quantity == limit)
-        })
+        let mut limits = self.0.iter().zip(quantities);
+        limits.all(|(&word, quantity)| keeps(word, quantity, parts))
     }
 
     /// The stretches of both zones, if any.
-    #[inline]
+    #[inline(always)]
     pub fn meet(&self, other: &Zone) -> Option<Zone> {
         let [s, ms, ..] = self.0;
         let [other_s, other_ms, ..] = other.0;
@@ -315,6 +361,85 @@ mod tests {
                 }
             }
         }
+    }
+
+    /// With limits on whole ticks, a start that keeps to all of them for an end on a half may be had
+    /// on quarters: the limits on it are whole ticks and whole ticks from the end, all of them halves,
+    /// and between two halves there is a quarter.
+    #[test]
+    fn all_times_between_the_limits_are_starts_and_ends() {
+        let mut rng = Rng::new(2, 1);
+        for _ in 0..2_000 {
+            let zone = any_zone(&mut rng);
+            for time in (0..=4 * 7).step_by(2) {
+                let is_start = (0..=4 * 7).any(|end| zone.has(time, end, 4));
+                assert_eq!(zone.starts().has(time, 4), is_start, "{zone:?} {time}");
+                let is_end = (0..=4 * 7).any(|start| zone.has(start, time, 4));
+                assert_eq!(zone.ends().has(time, 4), is_end, "{zone:?} {time}");
+            }
+        }
+    }
+
+    /// Ranges of all kinds up to tick 4, and the times that both have in thirds, where there are
+    /// times between any two ticks.
+    #[test]
+    fn ranges_share_what_both_have() {
+        let limits = |last: i32| (0..=last).flat_map(|v| [not_reached(v), reached(v)]);
+        let upper = || limits(4);
+        let lower = || limits(4).map(|word| 1 - word);
+        let all = |range: Range| (0..=12).filter(move |&time| range.has(time, 3));
+        let mut ranges: Vec<Range> = Vec::new();
+        for limit in upper() {
+            let with_lower = lower().map(|minus_limit| Range { limit, minus_limit });
+            ranges.extend(with_lower.filter(|&range| all(range).next().is_some()));
+        }
+        for &range in &ranges {
+            for &other in &ranges {
+                let common = all(range).any(|time| other.has(time, 3));
+                assert_eq!(range.shares(other), common, "{range:?} {other:?}");
+            }
+        }
+    }
+
+    /// The same for the ends of a zone and the starts of another, whose composition is empty just
+    /// where they share nothing.
+    #[test]
+    fn zones_touch_where_an_end_is_a_start() {
+        let mut rng = Rng::new(2, 2);
+        let mut touched = 0;
+        for _ in 0..5_000 {
+            let (left, right) = (any_zone(&mut rng), any_zone(&mut rng));
+            let stretches = |zone: Zone| {
+                let times = || 0..=4 * 7;
+                let all = times().flat_map(move |s| times().map(move |e| (s, e)));
+                all.filter(move |&(s, e)| zone.has(s, e, 4))
+            };
+            let starts: Vec<i64> = stretches(right).map(|(start, _)| start).collect();
+            let touch = stretches(left).any(|(_, end)| starts.contains(&end));
+            let shares = left.ends().shares(right.starts());
+            assert_eq!(shares, touch, "{left:?} {right:?}");
+            assert_eq!(shares, left.compose(&right).is_some());
+            touched += usize::from(touch);
+        }
+        assert!((500..4_500).contains(&touched));
+    }
+
+    #[test]
+    fn ranges_that_meet_in_one_time() {
+        let [run, next] = [Zone::run(2, 5), Zone::run(5, 9)];
+        let early = next.within(reached(-4), None).unwrap();
+        // To 5, reached, and from 5, reached; then with 5 not reached on one side, and on both.
+        assert!(run.ends().shares(next.starts()));
+        assert!(run.ends().shares(early.starts()));
+        assert!(!run.starts().shares(next.starts()));
+        assert!(!run.ends().shares(next.ends()));
+        assert!(!run.starts().shares(next.ends()));
+        // Both have all times between 2 and 5, neither of which is reached; and both have 5 alone.
+        assert!(run.starts().shares(run.ends()));
+        assert!(Zone::moment(5).ends().shares(next.starts()));
+        assert!(!Zone::moment(5).ends().shares(next.ends()));
+        assert!(run.ends().shares(Zone::moment(5).starts()));
+        assert!(!run.starts().shares(Zone::moment(5).starts()));
     }
 
     #[test]

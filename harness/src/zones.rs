@@ -2,6 +2,9 @@
 //!
 //! Every put that a rule names is made, in the rule's order, since order and rounds are part of
 //! the answer. What is saved is in how a put is made, never in how many are.
+//!
+//! How puts are made and pairs are gone through is the list's own affair ([`ZoneList`]); all else is
+//! the same for every kind of list.
 
 use crate::drill::{Band, Bound, Drill};
 use crate::recording::Recording;
@@ -12,26 +15,56 @@ use crate::zone::{not_reached, reached, Zone};
 pub const MAX_ZONES: usize = 128;
 
 /// Zones of which none lies inside another, in the order in which they were put.
-#[derive(Debug, PartialEq, Eq)]
-pub struct List(Vec<Zone>);
+pub trait ZoneList: Sized {
+    /// What a finished composition of two lists tells its caller, and a finished round.
+    type Told;
 
-impl List {
     /// With room for all that it may ever hold, so that no put allocates.
-    pub fn new() -> List {
-        List(Vec::with_capacity(MAX_ZONES))
-    }
+    fn new() -> Self;
 
-    pub fn zones(&self) -> &[Zone] {
-        &self.0
-    }
+    fn zones(&self) -> &[Zone];
 
     /// If the zone lies inside a listed one, nothing; else the listed ones inside it are removed,
     /// the rest keep their order, and it goes last.
-    ///
+    fn put(&mut self, zone: Zone) -> Result<(), Refusal>;
+
+    /// For each left zone, for each right zone, puts their meet, if there is any.
+    fn put_meets(&mut self, left: &Self, right: &Self) -> Result<(), Refusal>;
+
+    /// For each left zone, for each right zone, puts their composition, if there is any.
+    fn put_compositions(&mut self, left: &Self, right: &Self) -> Result<Self::Told, Refusal>;
+
+    fn copy_from(&mut self, other: &Self);
+
+    fn put_if_any(&mut self, zone: Option<Zone>) -> Result<(), Refusal> {
+        zone.map_or(Ok(()), |zone| self.put(zone))
+    }
+
+    fn put_all(&mut self, zones: &Self) -> Result<(), Refusal> {
+        zones.zones().iter().try_for_each(|&zone| self.put(zone))
+    }
+}
+
+/// The list of the plain matcher: the zones of all pairs are joined, and each put looks through the
+/// list.
+pub struct List(Vec<Zone>);
+
+impl ZoneList for List {
+    /// Nothing: all pairs are composed.
+    type Told = ();
+
+    fn new() -> List {
+        List(Vec::with_capacity(MAX_ZONES))
+    }
+
+    fn zones(&self) -> &[Zone] {
+        &self.0
+    }
+
     /// No listed zone lies inside another, so there cannot be both one that holds the new zone
     /// and one that the new zone holds: the first of either kind says which case it is.
     #[inline]
-    pub fn put(&mut self, zone: Zone) -> Result<(), Refusal> {
+    fn put(&mut self, zone: Zone) -> Result<(), Refusal> {
         for first in 0..self.0.len() {
             if self.0[first].contains(&zone) {
                 return Ok(());
@@ -48,6 +81,23 @@ impl List {
         Ok(())
     }
 
+    #[inline(always)]
+    fn put_meets(&mut self, left: &List, right: &List) -> Result<(), Refusal> {
+        self.put_pairs(left, right, Zone::meet)
+    }
+
+    #[inline(always)]
+    fn put_compositions(&mut self, left: &List, right: &List) -> Result<(), Refusal> {
+        self.put_pairs(left, right, Zone::compose)
+    }
+
+    fn copy_from(&mut self, other: &List) {
+        self.0.clear();
+        self.0.extend_from_slice(&other.0);
+    }
+}
+
+impl List {
     /// Removes the zone at `first` and all behind it that lie inside the given one.
     fn remove_inside(&mut self, zone: &Zone, first: usize) {
         let mut kept = first;
@@ -58,14 +108,6 @@ impl List {
             }
         }
         self.0.truncate(kept);
-    }
-
-    fn put_if_any(&mut self, zone: Option<Zone>) -> Result<(), Refusal> {
-        zone.map_or(Ok(()), |zone| self.put(zone))
-    }
-
-    fn put_all(&mut self, zones: &List) -> Result<(), Refusal> {
-        zones.0.iter().try_for_each(|&zone| self.put(zone))
     }
 
     /// For each left zone, for each right zone, puts what `join` makes of the two, if anything.
@@ -83,17 +125,6 @@ impl List {
         }
         Ok(())
     }
-
-    fn copy_from(&mut self, other: &List) {
-        self.0.clear();
-        self.0.extend_from_slice(&other.0);
-    }
-}
-
-impl Default for List {
-    fn default() -> List {
-        List::new()
-    }
 }
 
 /// What one written `*` took.
@@ -108,7 +139,7 @@ pub struct Star {
 #[derive(Clone, Copy, Debug, PartialEq, Eq)]
 pub enum Stop {
     Refused(Refusal),
-    /// The rounds would compose more pairs than the caller allowed. Not an outcome of the
+    /// The rounds would go through more pairs than the caller allowed. Not an outcome of the
     /// finder: for callers that meet drills at random and have no time for the slowest.
     TooSlow,
 }
@@ -124,7 +155,7 @@ impl From<Refusal> for Stop {
 pub struct Allowed {
     /// Rounds that may be finished: one more is refused by 13.
     pub rounds: u64,
-    /// Pairs of zones that the rounds may compose: one more is too slow.
+    /// Pairs of zones that the rounds may go through, composed or not: one more is too slow.
     pub pairs: u64,
 }
 
@@ -138,19 +169,27 @@ impl Allowed {
 }
 
 /// Builds the lists of one recording, and keeps count of the rounds.
-pub struct Matcher<'a> {
+pub struct Matcher<'a, L: ZoneList> {
     recording: &'a Recording<'a>,
     stars: Vec<Star>,
+    told: Vec<L::Told>,
     left: Allowed,
 }
 
-impl<'a> Matcher<'a> {
-    pub fn new(recording: &'a Recording<'a>, allowed: Allowed) -> Matcher<'a> {
+impl<'a, L: ZoneList> Matcher<'a, L> {
+    pub fn new(recording: &'a Recording<'a>, allowed: Allowed) -> Matcher<'a, L> {
         Matcher {
             recording,
             stars: Vec::new(),
+            told: Vec::new(),
             left: allowed,
         }
+    }
+
+    /// What the compositions of two lists and the rounds told that were finished since the last such
+    /// question, in the order in which they were finished, whatever came of the lists.
+    pub fn take_told(&mut self) -> Vec<L::Told> {
+        std::mem::take(&mut self.told)
     }
 
     /// What is left of the rounds and pairs allowed, whatever came of the lists.
@@ -164,21 +203,21 @@ impl<'a> Matcher<'a> {
     }
 
     /// The list of a drill, each operand's list finished before the next is begun.
-    pub fn list(&mut self, drill: &Drill) -> Result<List, Stop> {
+    pub fn list(&mut self, drill: &Drill) -> Result<L, Stop> {
         match drill {
             Drill::Empty => self.diagonal(),
             Drill::Letter { channel, high } => self.runs(*channel, *high),
             Drill::Event { channel, rise } => self.events(*channel, *rise),
-            Drill::Then(left, right) => self.pairs(left, right, Zone::compose),
-            Drill::Both(left, right) => self.pairs(left, right, Zone::meet),
+            Drill::Then(left, right) => self.then(left, right),
+            Drill::Both(left, right) => self.both(left, right),
             Drill::Either(left, right) => self.either(left, right),
             Drill::Within(inner, band) => self.within(inner, *band),
             Drill::Star(inner) => self.star(inner),
         }
     }
 
-    fn diagonal(&self) -> Result<List, Stop> {
-        let mut list = List::new();
+    fn diagonal(&self) -> Result<L, Stop> {
+        let mut list = L::new();
         list.put(self.whole_diagonal())?;
         Ok(list)
     }
@@ -187,72 +226,75 @@ impl<'a> Matcher<'a> {
         Zone::diagonal(self.recording.ticks() as i32)
     }
 
-    fn runs(&self, channel: u8, high: bool) -> Result<List, Stop> {
-        let mut list = List::new();
+    fn runs(&self, channel: u8, high: bool) -> Result<L, Stop> {
+        let mut list = L::new();
         self.recording.each_run(channel, high, |run| {
             list.put(Zone::run(run.start as i32, run.end as i32))
         })?;
         Ok(list)
     }
 
-    fn events(&self, channel: u8, rise: bool) -> Result<List, Stop> {
-        let mut list = List::new();
+    fn events(&self, channel: u8, rise: bool) -> Result<L, Stop> {
+        let mut list = L::new();
         self.recording
             .each_event(channel, rise, |tick| list.put(Zone::moment(tick as i32)))?;
         Ok(list)
     }
 
-    #[inline(always)]
-    fn pairs(
-        &mut self,
-        left: &Drill,
-        right: &Drill,
-        join: impl Fn(&Zone, &Zone) -> Option<Zone>,
-    ) -> Result<List, Stop> {
+    fn then(&mut self, left: &Drill, right: &Drill) -> Result<L, Stop> {
         let left = self.list(left)?;
         let right = self.list(right)?;
-        let mut list = List::new();
-        list.put_pairs(&left, &right, join)?;
+        let mut list = L::new();
+        // Only what is finished tells anything: a composition that 10 breaks off does not.
+        self.told.push(list.put_compositions(&left, &right)?);
         Ok(list)
     }
 
-    fn either(&mut self, left: &Drill, right: &Drill) -> Result<List, Stop> {
+    fn both(&mut self, left: &Drill, right: &Drill) -> Result<L, Stop> {
         let left = self.list(left)?;
         let right = self.list(right)?;
-        let mut list = List::new();
+        let mut list = L::new();
+        list.put_meets(&left, &right)?;
+        Ok(list)
+    }
+
+    fn either(&mut self, left: &Drill, right: &Drill) -> Result<L, Stop> {
+        let left = self.list(left)?;
+        let right = self.list(right)?;
+        let mut list = L::new();
         list.put_all(&left)?;
         list.put_all(&right)?;
         Ok(list)
     }
 
-    fn within(&mut self, inner: &Drill, band: Band) -> Result<List, Stop> {
+    fn within(&mut self, inner: &Drill, band: Band) -> Result<L, Stop> {
         let inner = self.list(inner)?;
         // A lower bound on the length is an upper limit on its negation.
         let minus_length = limit(band.lo, -1);
         let length = band.hi.map(|hi| limit(hi, 1));
-        let mut list = List::new();
+        let mut list = L::new();
         for zone in inner.zones() {
             list.put_if_any(zone.within(minus_length, length))?;
         }
         Ok(list)
     }
 
-    fn star(&mut self, inner: &Drill) -> Result<List, Stop> {
+    fn star(&mut self, inner: &Drill) -> Result<L, Stop> {
         let inner = self.list(inner)?;
-        let mut before = List::new();
-        let mut list = List::new();
+        let mut before = L::new();
+        let mut list = L::new();
         list.copy_from(&inner);
         let mut rounds = 0;
         loop {
             self.begin_round(&list, &inner)?;
             before.copy_from(&list);
-            list.put_pairs(&before, &inner, Zone::compose)?;
+            self.told.push(list.put_compositions(&before, &inner)?);
             // Only a round that is finished is spent: one that 10 breaks off is not.
             self.left.rounds -= 1;
             rounds += 1;
             // A round may remove one zone and add another, so only equality of the whole lists,
             // order included, says that it changed nothing.
-            if list == before {
+            if list.zones() == before.zones() {
                 break;
             }
         }
@@ -265,7 +307,7 @@ impl<'a> Matcher<'a> {
     }
 
     /// A round beyond those left is never begun, whatever it would have come to.
-    fn begin_round(&mut self, before: &List, inner: &List) -> Result<(), Stop> {
+    fn begin_round(&mut self, before: &L, inner: &L) -> Result<(), Stop> {
         if self.left.rounds == 0 {
             return Err(Refusal::RoundsSpent.into());
         }

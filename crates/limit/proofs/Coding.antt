@@ -5,7 +5,7 @@ use lib.Dec.{T}
 use lib.IntN.{ℤ, pos, _+ℤ_, _-ℤ_, _*ℤ_}
 use lib.Signed.{leZ, ltZ, shrZ}
 use Rattle.signed.proofs.Integers.{arithZ, sum, diff, half, times}
-use Rattle.limit.specs.Limit.{Limit, AtMost, Below, at-most, lesser, _⊕_, nought, code, decode}
+use Rattle.limit.specs.Limit.{Limit, AtMost, Below, at-most, lesser, greater, _⊕_, nought, code, decode}
 
 -- ---- the coding
 
@@ -104,3 +104,8 @@ pub lesser-word : (a b : ℤ) (t : Bool) → leZ a b ≡ t → cond t a b ≡ co
 unfolding lesser
 lesser-word a b true e = rw (decode-order a b, e, code-decode a)
 lesser-word a b false e = rw (decode-order a b, e, code-decode b)
+
+pub greater-word : (a b : ℤ) (t : Bool) → leZ a b ≡ t → cond t b a ≡ code (greater (decode a) (decode b))
+unfolding greater
+greater-word a b true e = rw (decode-order a b, e, code-decode b)
+greater-word a b false e = rw (decode-order a b, e, code-decode a)

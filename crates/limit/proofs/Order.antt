@@ -6,7 +6,7 @@ use native.Mathlib.Decide.{decLe}
 use native.Mathlib.Omega.{arith}
 use lib.Dec.{T-not}
 use lib.IntN.{+ℤ-comm, +ℤ-assoc}
-use Rattle.limit.specs.Limit.{Limit, AtMost, Below, at-most, _≤ᴸ_, _⊕_, lesser, nought}
+use Rattle.limit.specs.Limit.{Limit, AtMost, Below, at-most, _≤ᴸ_, _⊕_, lesser, greater, nought}
 use Rattle.limit.proofs.Linear.{up, dn, un, un-le, le-lin, lin-le, sum-ud, sum-un, nought-up, nought-dn, nought-un, test}
 
 pub ≤-refl : (l : Limit) → l ≤ᴸ l
@@ -70,6 +70,16 @@ lesser-is-l {l} {m} h = test (at-most l m) (λ c. cond c l m ≡ l) (λ t. refl)
 pub lesser-of : (P : Limit → Type 0) {l m : Limit} → P l → P m → P (lesser l m)
 unfolding lesser
 lesser-of P {l} {m} p q = test (at-most l m) (λ c. P (cond c l m)) (λ t. p) (λ t. q)
+
+-- ---- the greater
+
+pub greater-l : (l m : Limit) → l ≤ᴸ greater l m
+unfolding greater
+greater-l l m = test (at-most l m) (λ c. l ≤ᴸ cond c m l) (λ t. record { le = t }) (λ t. ≤-refl l)
+
+pub greater-r : (l m : Limit) → m ≤ᴸ greater l m
+unfolding greater
+greater-r l m = test (at-most l m) (λ c. m ≤ᴸ cond c m l) (λ t. ≤-refl m) (λ t. not≤ (λ h. T-not (at-most l m) t (h .le)))
 
 -- ---- ways through several times: what lies on a way and is not negative may be left out
 

@@ -146,6 +146,9 @@ word-kept l f e = ap decode (read-back f e) ∙ decode-code l
 pub small-kept : {x : ℤ} (l : Limit) → SFits w32 x → x ≡ code l → Small most-sum l → Small most-sum (decode (toZ w32 (ofZ w32 x)))
 small-kept l f e h = rw (word-kept l f e) h
 
+pub room-kept : (l m : Limit) {x y : ℤ} → SFits w32 x → SFits w32 y → x ≡ code l → y ≡ code m → at-most nought (decode (toZ w32 (ofZ w32 x)) ⊕ decode (toZ w32 (ofZ w32 y))) ≡ at-most nought (l ⊕ m)
+room-kept l m f g p q = rw (word-kept l f p, word-kept m g q)
+
 pub both-kept : (f : Limit → Limit → Limit) (l m : Limit) {x y r : ℤ} → SFits w32 x → SFits w32 y → SFits w32 r → x ≡ code l → y ≡ code m → r ≡ code (f (decode (toZ w32 (ofZ w32 x))) (decode (toZ w32 (ofZ w32 y)))) → decode (toZ w32 (ofZ w32 r)) ≡ f l m
 both-kept f l m a b c p q e = word-kept (f l m) c (e ∙ rw (word-kept l a p, word-kept m b q))
 

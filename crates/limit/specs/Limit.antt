@@ -29,6 +29,10 @@ pub record _≤ᴸ_ (l m : Limit) : Type 0 where
 unfoldable pub lesser : Limit → Limit → Limit
 lesser l m = cond (at-most l m) l m
 
+-- the greater
+unfoldable pub greater : Limit → Limit → Limit
+greater l m = cond (at-most l m) m l
+
 -- "a sum is reached if both its parts are"
 infixl 60 _⊕_
 unfoldable pub _⊕_ : Limit → Limit → Limit

@@ -6,7 +6,7 @@ ghost use mathlib.Core.Path.{_≡_};
 ghost use Prim.Native.Nat.{_≤_};
 ghost use lib.IntN.{pos, negℤ, _+ℤ_, _-ℤ_};
 ghost use lib.Signed.{mag};
-ghost use Rattle.limit.specs.Limit.{at-most, lesser, _⊕_, nought, most, least, less, more, IsMost, IsLeast, IsLess, IsMore, most-ticks, most-sum, code, decode, Small};
+ghost use Rattle.limit.specs.Limit.{at-most, lesser, greater, _⊕_, nought, most, least, less, more, IsMost, IsLeast, IsLess, IsMore, most-ticks, most-sum, code, decode, Small};
 
 // An upper limit: reached (non-strict) or not reached (strict), with its whole number.
 pub enum Limit {
@@ -47,11 +47,17 @@ fn sum(a: i32, b: i32) -> i32
     a + b - excess(a, b)
 }
 
-// The lesser of two limits, of their words.
-fn lesser(a: i32, b: i32) -> i32
+// The lesser of two limits, of their words, and the greater.
+pub fn lesser(a: i32, b: i32) -> i32
     ensures { λ r. ⌜ r ≡ code (lesser (decode a) (decode b)) ⌝ }
 {
     if a <= b { a } else { b }
+}
+
+pub fn greater(a: i32, b: i32) -> i32
+    ensures { λ r. ⌜ r ≡ code (greater (decode a) (decode b)) ⌝ }
+{
+    if a <= b { b } else { a }
 }
 
 // The lesser of a limit and the sum of two others, of their words.
@@ -60,6 +66,15 @@ fn or_sum(a: i32, b: i32, c: i32) -> i32
     ensures { λ r. ⌜ r ≡ code (lesser (decode a) (decode b ⊕ decode c)) ⌝ }
 {
     lesser(a, sum(b, c))
+}
+
+// Whether a limit and one on the negated quantity leave room between them, of their words: whether these come to 2 or more. The
+// other's word stands on a side of its own, so that it is worked out once for all limits held against it.
+pub fn room(word: i32, negated: i32) -> bool
+    requires { ⌜ Small most-sum (decode negated) ⌝ }
+    ensures { λ r. ⌜ r ≡ at-most nought (decode word ⊕ decode negated) ⌝ }
+{
+    2 - negated <= word
 }
 
 impl Limit {
@@ -136,13 +151,12 @@ impl Limit {
         Limit::of_word(or_sum(self.word(), a.word(), b.word()))
     }
 
-    // Whether this limit and the one on the negated quantity leave room between them: whether their words come to 2 or
-    // more. The other's word stands on a side of its own, so that it is worked out once for all limits held against it.
+    // Whether this limit and the one on the negated quantity leave room between them.
     pub fn leaves_room(self, negated: Limit) -> bool
         requires { ⌜ (Small most-sum self) × (Small most-sum negated) ⌝ }
         ensures { λ r. ⌜ r ≡ at-most nought (self ⊕ negated) ⌝ }
     {
-        2 - negated.word() <= self.word()
+        room(self.word(), negated.word())
     }
 
     // The word of a limit: twice its number, and one more where it is reached.

@@ -1,11 +1,7 @@
 -- None of the listed zones lies inside another.
-use mathlib.Core.List.{List, [], _∷_, List·Memᴰ}
-use lib.Dec.{T}
+use mathlib.Core.List.{List, [], _∷_}
 use Rattle.zone.specs.declared.Zone.{Zone}
-use Rattle.zone.specs.Zone.{contains}
-
-abbrev pub Apart : Zone → List Zone → Type 0
-Apart x L = (y : Zone) → List·Memᴰ y L → (¬ T (contains y x)) × (¬ T (contains x y))
+use Rattle.list.specs.Members.{Apart}
 
 abbrev pub Antichain : List Zone → Type 0
 Antichain [] = Unit {0}

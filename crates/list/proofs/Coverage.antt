@@ -16,8 +16,8 @@ use Rattle.zone.specs.declared.MaybeZone.the-variants.{Zone as zone, Empty as e
 use Rattle.zone.specs.Zone.{contains, In, InMaybe, Proper}
 use Rattle.zone.proofs.Laws.{contains-refl, contains-trans, contains-in}
 use Rattle.list.specs.Insert.{capacity, covered, outside, Put, away, placed, overflow, insert, listed, after, insert-each}
-use Rattle.list.specs.Members.{Lies, AllProper, Covered}
-use Rattle.list.proofs.Antichain.{Apart, Antichain}
+use Rattle.list.specs.Members.{Lies, AllProper, Covered, Apart}
+use Rattle.list.proofs.Antichain.{Antichain}
 
 -- two constructors are never equal: `clash (cc)`
 pub clash : {A : Type 0} → _≡_ {A = ℕ} 0 1 → A
@@ -66,6 +66,23 @@ outside-mem z (a ∷ L) {y} m = go (λ n. outside-mem z L n) (contains z a) refl
     go below true e m = let c = below m in (tail (c .0), c .1)
     go below false e (head q) = (head q, λ t. subst T e (subst (λ (k : Zone). T (contains z k)) q t))
     go below false e (tail m) = let c = below m in (tail (c .0), c .1)
+
+-- all of them, where none lies inside z
+pub outside-all : (z : Zone) (L : List Zone) → ((y : Zone) → List·Memᴰ y L → ¬ T (contains z y)) → outside z L ≡ L
+unfolding outside
+outside-all z [] f = refl
+outside-all z (y ∷ L) f = go (contains z y) refl (outside-all z L (λ x m. f x (tail m)))
+  where
+    go : (b : Bool) → contains z y ≡ b → outside z L ≡ L → cond b (outside z L) (y ∷ outside z L) ≡ y ∷ L
+    go true e below = absurd (f y (head refl) (subst T (sym e) tt))
+    go false e below = ap (λ (K : List Zone). y ∷ K) below
+
+pub apart-new : (z : Zone) (L : List Zone) → Apart z L → covered z L ≡ false
+apart-new z L f = go (covered z L) refl
+  where
+    go : (b : Bool) → covered z L ≡ b → covered z L ≡ false
+    go true e = let c = covered-by z L (subst T (sym e) tt) in absurd (f (c .0) (c .1) .0 (c .2))
+    go false e = e
 
 mem-outside : (z : Zone) {y : Zone} {L : List Zone} → List·Memᴰ y L → T (contains z y) ⊎ List·Memᴰ y (outside z L)
 unfolding outside

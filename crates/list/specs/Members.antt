@@ -19,3 +19,7 @@ AllProper from to L = (z : Zone) → List·Memᴰ z L → Proper from to z
 -- x lies inside some listed zone
 abbrev pub Covered : Zone → List Zone → Type 0
 Covered x L = (y : Zone) × List·Memᴰ y L × T (contains y x)
+
+-- x lies inside no listed zone, and none lies inside x
+abbrev pub Apart : Zone → List Zone → Type 0
+Apart x L = (y : Zone) → List·Memᴰ y L → (¬ T (contains y x)) × (¬ T (contains x y))

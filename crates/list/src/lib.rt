@@ -4,14 +4,14 @@
 // specs/ has a definition for each, over plain lists of zones; specs/Slots.antt says how a slot holds a list.
 use nesting::Nesting;
 use words::ZONE_WORDS;
-use zone::Zone;
 ghost use mathlib.Core.Path.{_≡_};
 ghost use mathlib.Core.Logic.{_⊎_};
 ghost use Prim.Native.Nat.{_+_, _*_, _≤_, _<_};
 ghost use lib.ListN.{length};
 ghost use Rattle.words.specs.Words.{zone-words, zoneAt};
-ghost use Rattle.zone.specs.Zone.{Ranged, contains};
+ghost use Rattle.zone.specs.Zone.{contains};
 ghost use Rattle.list.specs.Insert.{capacity, outside};
+ghost use Rattle.list.specs.Members.{Apart};
 ghost use Rattle.list.specs.Slots.{slot-words, listAt, Free, Slot, Holds, Kept, Copied, Disjoint, InsertAs};
 ghost use Rattle.list.specs.Steps.{KeepsAs, Sifting, LookAs, AlsoAs, AppendAs};
 
@@ -172,14 +172,12 @@ pub fn insert_words(words: &mut [i32], base: usize, count: usize, w: &[i32; ZONE
     }
 }
 
-// Puts a zone into the list of a slot.
-pub fn insert(words: &mut [i32], base: usize, count: usize, z: Zone) -> Inserted
-    requires { ⌜ (Slot (now words) base count) × (Ranged 1_000_000 z) ⌝ }
-    ensures { λ r. ⌜ InsertAs z (now (words .entry)) base count (now (words .exit)) r ⌝ }
+// Puts the zone of six words w, which lies inside no listed zone and around none: it goes last, and no zone gives way to it.
+pub fn insert_apart(words: &mut [i32], base: usize, count: usize, w: &[i32; ZONE_WORDS]) -> Inserted
+    requires { ⌜ (Slot (now words) base count) × (Apart (zoneAt (now w) 0) (listAt (now words) base count)) ⌝ }
+    ensures { λ r. ⌜ InsertAs (zoneAt (now (w .entry)) 0) (now (words .entry)) base count (now (words .exit)) r ⌝ }
 {
-    let mut w = [0i32; ZONE_WORDS];
-    words::write_zone(&mut w, 0, z);
-    insert_words(words, base, count, &w)
+    append(words, base, count, w)
 }
 
 // Brings a list to its slot, where it stands in another.

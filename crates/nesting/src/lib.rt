@@ -25,8 +25,8 @@ fn word_at_most(inner: &[i32], i: usize, outer: &[i32], j: usize) -> bool
     inner[i] <= outer[j]
 }
 
-// Whether the tight zone whose words stand from `i` on in `inner` lies inside the one from `j` on in `outer`. The starts
-// mostly settle it. The other four limits are compared in one go.
+// Whether the tight zone whose words stand from `i` on in `inner` lies inside the one from `j` on in `outer`. The starts mostly settle it,
+// and then the lengths. Words are compared by twos, as a zone that was just composed was written: so they are read without a wait.
 pub fn included(inner: &[i32], i: usize, outer: &[i32], j: usize) -> bool
     requires { ⌜ (i + zone-words ≤ length (now inner)) × (j + zone-words ≤ length (now outer)) ⌝ }
     ensures value { λ r. ⌜ r ≡ contains (zoneAt (now (outer .entry)) j) (zoneAt (now (inner .entry)) i) ⌝ }
@@ -38,10 +38,12 @@ pub fn included(inner: &[i32], i: usize, outer: &[i32], j: usize) -> bool
     if !word_at_most(inner, i + 1, outer, j + 1) {
         return false;
     }
-    word_at_most(inner, i + 2, outer, j + 2)
-        & word_at_most(inner, i + 3, outer, j + 3)
-        & word_at_most(inner, i + 4, outer, j + 4)
-        & word_at_most(inner, i + 5, outer, j + 5)
+    let shorter = word_at_most(inner, i + 4, outer, j + 4);
+    let longer = word_at_most(inner, i + 5, outer, j + 5);
+    if !(shorter & longer) {
+        return false;
+    }
+    word_at_most(inner, i + 2, outer, j + 2) & word_at_most(inner, i + 3, outer, j + 3)
 }
 
 // How the tight zone whose words stand from `i` on in `a` lies to the one from `j` on in `b`. The one whose starts have the

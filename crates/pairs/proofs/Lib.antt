@@ -1,4 +1,5 @@
+pub mod Counted
 pub mod Pairs
-pub mod Loops
-pub mod Puts
-pub mod Growing
+pub mod Zones
+pub mod Combining
+pub mod Turns

@@ -1,4 +1,5 @@
+pub mod Counted
 pub mod Pairs
 pub mod Operands
-pub mod Growth
+pub mod Row
 pub mod Steps

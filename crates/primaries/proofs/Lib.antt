@@ -1,3 +1,2 @@
 pub mod Windows
-pub mod Puts
 pub mod Spelling

@@ -6,16 +6,19 @@ use Prim.Native.Nat.{ℕ, _+_, _-_, _≤_, min}
 use native.Mathlib.Omega.{arith}
 use lib.Dec.{ltb}
 use lib.IntN.{ℤ}
+use lib.ListN.{length}
 use Rattle.zone.specs.declared.Zone.{Zone}
 use Rattle.zone.specs.declared.MaybeZone.{MaybeZone}
 use Rattle.zone.specs.declared.MaybeZone.the-variants.{Zone as zone, Empty as empty}
 use Rattle.zone.specs.Zone.{Ranged, diagonal}
 use Rattle.zone.proofs.Laws.{proper-run, proper-diagonal, ranged, ranged-more}
 use Rattle.list.specs.Insert as puts
-use Rattle.list.specs.Insert.{capacity, Built, listed, insert, after, insert-each}
+use Rattle.list.specs.Insert.{Built, listed, insert, after, insert-each}
 use Rattle.list.specs.Slots.{slot-words, listAt, Kept}
-use Rattle.operators.specs.Listing.{Listing}
-use Rattle.pairs.proofs.Loops.{then, insert-each-append}
+use Rattle.growing.specs.declared.Growing.{Growing}
+use Rattle.growing.specs.Growth.{Stands, Begins, NoPair, Growth}
+use Rattle.growing.proofs.Loops.{then, insert-each-append}
+use Rattle.growing.proofs.Going.{begun-stands, grown-stands}
 use Rattle.list.proofs.Puts.{holds-same}
 use Rattle.list.proofs.Slots.{kept-refl, kept-trans}
 use Rattle.recording.specs.Reading.{ticks}
@@ -45,33 +48,39 @@ use Rattle.primaries.specs.Spelling.{widened, markOf, Spelling}
 
 module _ (bytes : List ℕ) (channel : ℕ) (level : Level) (mark : Mark) (from to : ℕ) where
   -- `runs` were found up to the cursor, and the slot holds the list that they make
-  pub record Spelt (cursor : Cursor) (base : ℕ) (ws₀ ws : List ℤ) (count : ℕ) : Type 0 where
+  pub record Spelt (cursor : Cursor) (base : ℕ) (ws₀ ws : List ℤ) (g : Growing) : Type 0 where
     pub runs : List Run
     pub taken : Taken bytes channel level from to cursor runs
-    pub built : insert-each (map (markOf mark to) runs) [] ≡ listed (listAt ws base count)
-    pub few : count ≤ capacity
+    pub built : insert-each (map (markOf mark to) runs) [] ≡ listed (listAt ws base (g .count))
+    pub stands : Stands ws base g
     pub frame : Kept base slot-words ws₀ ws
 
-  pub spelt-none : (base : ℕ) (ws : List ℤ) → Spelt (record { change = 0 }) base ws ws 0
+  pub spelt-none : (base : ℕ) (ws : List ℤ) (g : Growing) → Begins 0 g → base + slot-words ≤ length ws → Spelt (record { change = 0 }) base ws ws g
   unfolding insert-each listAt
-  spelt-none base ws =
-      record { runs = []; taken = taken-none bytes channel level from to; built = refl; few = omega arith; frame = kept-refl base slot-words ws }
+  spelt-none base ws g b room =
+      record {
+        runs = [];
+        taken = taken-none bytes channel level from to;
+        built = ap (λ (n : ℕ). listed (listAt ws base n)) (sym (b .count));
+        stands = begun-stands b (record { few = omega arith; room = room });
+        frame = kept-refl base slot-words ws;
+      }
 
-  module _ {cursor : Cursor} {base : ℕ} {ws₀ ws : List ℤ} {count : ℕ} (s : Spelt cursor base ws₀ ws count) where
+  module _ {cursor : Cursor} {base : ℕ} {ws₀ ws : List ℤ} {g : Growing} (s : Spelt cursor base ws₀ ws g) where
     -- no run more: all of them
-    pub spelt-all : (told : ℕ) → NextRun bytes channel level from to cursor None → Standing (Spelling mark (Shows bytes channel level) from to) told ws base count told
+    pub spelt-all : (told : ℕ) → NextRun bytes channel level from to cursor None → Standing (Spelling mark (Shows bytes channel level) from to) told ws base (g .count) told
     spelt-all told n =
         record {
-          list = listAt ws base count;
+          list = listAt ws base (g .count);
           rounds = 0;
           means = record { runs = s .runs; maximal = taken-all bytes channel level from to cursor (s .taken) n; built = ap ended (sym (s .built)) };
           spends = omega arith;
-          holds = holds-same ws base count (s .few);
+          holds = holds-same ws base (g .count) (s .stands .slot .few);
         }
 
     module _ (x : Run) (onward : Cursor) (n : NextRun bytes channel level from to cursor (Found x onward)) where
       -- the marks of more runs
-      on : (zs : List Run) → insert-each (map (markOf mark to) (s .runs ++ zs)) [] ≡ insert-each (map (markOf mark to) zs) (listAt ws base count)
+      on : (zs : List Run) → insert-each (map (markOf mark to) (s .runs ++ zs)) [] ≡ insert-each (map (markOf mark to) zs) (listAt ws base (g .count))
       on zs =
           ap (λ (ms : List MaybeZone). insert-each ms []) (map-append (markOf mark to) (s .runs) zs)
           ∙ insert-each-append (map (markOf mark to) (s .runs)) (map (markOf mark to) zs) []
@@ -79,34 +88,34 @@ module _ (bytes : List ℕ) (channel : ℕ) (level : Level) (mark : Mark) (from 
 
       -- the next run
       module _ {m : MaybeZone} (is : m ≡ markOf mark to x) where
-        more : insert-each (map (markOf mark to) (s .runs ++ (x ∷ []))) [] ≡ insert-each (m ∷ []) (listAt ws base count)
-        more = on (x ∷ []) ∙ ap (λ (k : MaybeZone). insert-each (k ∷ []) (listAt ws base count)) (sym is)
+        more : insert-each (map (markOf mark to) (s .runs ++ (x ∷ []))) [] ≡ insert-each (m ∷ []) (listAt ws base (g .count))
+        more = on (x ∷ []) ∙ ap (λ (k : MaybeZone). insert-each (k ∷ []) (listAt ws base (g .count))) (sym is)
 
         -- without a mark it is passed over
-        pub spelt-skip : m ≡ empty → Spelt onward base ws₀ ws count
+        pub spelt-skip : m ≡ empty → Spelt onward base ws₀ ws g
         unfolding insert-each
         spelt-skip e =
             record {
               runs = s .runs ++ (x ∷ []);
               taken = taken-more bytes channel level from to cursor onward (s .taken) n;
-              built = more ∙ ap (λ (k : MaybeZone). insert-each (k ∷ []) (listAt ws base count)) e;
-              few = s .few;
+              built = more ∙ ap (λ (k : MaybeZone). insert-each (k ∷ []) (listAt ws base (g .count))) e;
+              stands = s .stands;
               frame = s .frame;
             }
 
         -- its mark is put
-        pub spelt-more : {vs : List ℤ} {k : ℕ} → Listing (insert-each (m ∷ []) (listAt ws base count)) vs base k → Kept base slot-words ws vs → Spelt onward base ws₀ vs k
+        pub spelt-more : {vs : List ℤ} {h : Growing} → Growth (insert-each (m ∷ []) (listAt ws base (g .count))) NoPair g (listAt ws base (g .count)) vs base h → Kept base slot-words ws vs → Spelt onward base ws₀ vs h
         spelt-more l f =
             record {
               runs = s .runs ++ (x ∷ []);
               taken = taken-more bytes channel level from to cursor onward (s .taken) n;
               built = more ∙ l .value ∙ ap listed (sym (l .holds .zones));
-              few = l .holds .few;
+              stands = grown-stands (s .stands .slot) f l;
               frame = kept-trans (s .frame) f;
             }
 
         -- or would be one too many, whatever runs come after it
-        spelling-over : insert-each (m ∷ []) (listAt ws base count) ≡ puts.overflow → Spelling mark (Shows bytes channel level) from to (overflow 0 0)
+        spelling-over : insert-each (m ∷ []) (listAt ws base (g .count)) ≡ puts.overflow → Spelling mark (Shows bytes channel level) from to (overflow 0 0)
         spelling-over e =
             let all = shows-runs bytes channel level from to in
             let rest = scanned-first (taken-more bytes channel level from to cursor onward (s .taken) n) all in
@@ -121,7 +130,7 @@ module _ (bytes : List ℕ) (channel : ℕ) (level : Level) (mark : Mark) (from 
                   ∙ ap (λ (b : Built). then b (insert-each (map (markOf mark to) (rest .0)))) (more ∙ e)));
             }
 
-        pub spelt-over : (told : ℕ) → insert-each (m ∷ []) (listAt ws base count) ≡ puts.overflow → Overflowed (Spelling mark (Shows bytes channel level) from to) told told
+        pub spelt-over : (told : ℕ) → insert-each (m ∷ []) (listAt ws base (g .count)) ≡ puts.overflow → Overflowed (Spelling mark (Shows bytes channel level) from to) told told
         spelt-over told e = record { overflowing = record { opened = 0; done = 0; means = spelling-over e; within = omega arith }; spends = omega arith }
 
 -- a mark that words have room for

@@ -2,14 +2,14 @@
 //
 // The crate `meaning` says which list each has; `purse` how a slot holds it. None has a round: those told are left.
 use expression::Sign;
-use list::Inserted;
-use operators::Listed;
+use growing::Grown;
 use purse::Evaluated;
 use recording::Dimensions;
 use runs::Cursor;
 use runs::Level;
 use runs::Next;
 use runs::Run;
+use words::ZONE_WORDS;
 use zone::MaybeZone;
 use zone::Zone;
 ghost use mathlib.Core.Path.{_≡_};
@@ -18,10 +18,9 @@ ghost use Prim.Native.Nat.{_+_, _-_, _≤_, min};
 ghost use lib.ListN.{length};
 ghost use Rattle.limit.specs.Limit.{most-ticks};
 ghost use Rattle.zone.specs.declared.MaybeZone.the-variants.{Zone as zone};
-ghost use Rattle.zone.specs.Zone.{Ranged, diagonal};
+ghost use Rattle.zone.specs.Zone.{diagonal};
 ghost use Rattle.list.specs.Insert.{insert-each};
-ghost use Rattle.list.specs.Slots.{slot-words, listAt, Slot, Kept};
-ghost use Rattle.operators.specs.Listing.{BuiltAs};
+ghost use Rattle.list.specs.Slots.{slot-words, Kept};
 ghost use Rattle.runs.specs.Levels.{Shows};
 ghost use Rattle.runs.specs.Search.{other};
 ghost use Rattle.expression.specs.Expression.{literal};
@@ -38,29 +37,20 @@ pub struct Window {
     pub to: u32,
 }
 
-// Puts a zone into the list of a slot, and answers the new count. Only the loop over runs calls it, and so is one with it.
-fn put(work: &mut [i32], base: usize, count: usize, z: Zone) -> Listed
-    requires { ⌜ (Slot (now work) base count) × (Ranged 1_000_000 z) ⌝ }
-    ensures built { λ r. ⌜ BuiltAs (insert-each (zone z ∷ []) (listAt (now (work .entry)) base count)) (now (work .exit)) base r ⌝ }
-    ensures kept { λ _. ⌜ Kept base slot-words (now (work .entry)) (now (work .exit)) ⌝ }
-{
-    match list::insert(work, base, count, z) {
-        Inserted::Away => Listed::Count(count),
-        Inserted::Placed(n) => Listed::Count(n),
-        Inserted::Overflow => Listed::Overflow,
-    }
-}
-
 // `_`: the diagonal of ticks from..to, in the slot at `base`.
 pub fn point(work: &mut [i32], base: usize, from: u32, to: u32, told: u64) -> Evaluated
     requires { ⌜ (Ticks from to) × (base + slot-words ≤ length (now work)) ⌝ }
     ensures value { λ r. ⌜ EvaluatedAs (λ v. v ≡ ended (insert-each (zone (diagonal from to) ∷ []) [])) told (now (work .exit)) base r ⌝ }
     ensures kept { λ _. ⌜ Kept base slot-words (now (work .entry)) (now (work .exit)) ⌝ }
 {
-    let Inserted::Placed(count) = list::insert(work, base, 0, Zone::diagonal(from, to)) else {
+    let Grown::Grew(g) = growing::grow(work, base, growing::nothing(), Zone::diagonal(from, to))
+    else {
         return Evaluated::Overflow { left: told }; // never: an empty list has room
     };
-    Evaluated::Listed { count, left: told }
+    Evaluated::Listed {
+        count: g.count,
+        left: told,
+    }
 }
 
 // What is put for each run of ticks.
@@ -104,7 +94,7 @@ fn spell(
     ensures kept { λ _. ⌜ Kept base slot-words (now (work .entry)) (now (work .exit)) ⌝ }
 {
     let mut cursor = Cursor { change: 0 };
-    let mut count = 0;
+    let mut grown = growing::nothing();
     loop {
         let Next::Found(run, onward) = runs::next_run(
             bytes,
@@ -115,16 +105,21 @@ fn spell(
             window.to,
             cursor,
         ) else {
-            return Evaluated::Listed { count, left: told };
+            return Evaluated::Listed {
+                count: grown.count,
+                left: told,
+            };
         };
         cursor = onward;
         let MaybeZone::Zone(z) = mark_of(mark, run, window.to) else {
             continue;
         };
-        let Listed::Count(n) = put(work, base, count, z) else {
+        let mut out = [0i32; ZONE_WORDS];
+        words::write_zone(&mut out, 0, z);
+        let Grown::Grew(next) = growing::grow_words(work, base, grown, &out) else {
             return Evaluated::Overflow { left: told };
         };
-        count = n;
+        grown = next;
     }
 }
 

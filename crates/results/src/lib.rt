@@ -31,7 +31,7 @@ fn result(
 }
 
 // The results of the n drills in the store, from the front of `out`: the first is told so many rounds, each other one those that the one before it
-// leaves, and finds both buffers as it left them.
+// leaves, and finds both buffers as it left them. Of a store that holds no n drills nothing is said.
 pub fn results(
     recording: &[u8],
     store: &[u8],

@@ -64,7 +64,7 @@ times (negsuc a) n = (neg (pos (suc a * n)) .0 ∙ omega arith, neg (pos (suc a 
 
 -- ---- orders and their tests, both ways
 
-T-is : {t : Bool} → T t → t ≡ true
+pub T-is : {t : Bool} → T t → t ≡ true
 T-is {t = true} h = refl
 T-is {t = false} h = absurd h
 

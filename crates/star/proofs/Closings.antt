@@ -1,6 +1,5 @@
 -- What the loops have put together, as the answers of a round and of a star.
 use mathlib.Core.Path.{_≡_, refl, sym, ap, subst, _∙_}
-use mathlib.Core.Bool.{Bool, true, false}
 use mathlib.Core.Logic.{_⊎_, inl, inr}
 use mathlib.Core.List.{List, [], _∷_}
 use Prim.Native.Nat.{ℕ, _+_, _*_, _≤_, _<_}
@@ -11,17 +10,20 @@ use Rattle.zone.specs.declared.MaybeZone.the-variants.{Zone as zone}
 use Rattle.list.specs.Insert as puts
 use Rattle.list.specs.Insert.{Built, listed, insert-each}
 use Rattle.pairs.specs.declared.Operation.the-variants.{Compose}
-use Rattle.pairs.specs.Pairs.{pairs}
+use Rattle.pairs.specs.Counted.{Counted}
+use Rattle.pairs.specs.Pairs.{pairs, Touching, crossed}
 use Rattle.purse.specs.Purse.{Standing, Overflowed, Exceeding}
 use Rattle.star.specs.Star.{Value, value, overflow, begun, Rounds, Star, closed, diagonal-overflows, round-overflows, round}
-use Rattle.list.specs.Slots.{listAt, Free, Kept, Copied, Disjoint}
+use Rattle.list.specs.Slots.{listAt, Free, Sound, Kept, Copied, Disjoint}
 use Rattle.pairs.specs.Operands.{Operands}
 use Rattle.operators.specs.Listing.{Workspace, Listing}
-use Rattle.pairs.specs.Growth.{Alters, Growth}
+use Rattle.growing.specs.declared.Growing.{Growing}
+use Rattle.growing.specs.Growth.{Alters, Unsurpassed, Stands, Begins, Growth}
 use Rattle.star.specs.Steps.{Changes, Ending}
-use Rattle.list.proofs.Slots.{listAt-copied, list-there, still-source}
-use Rattle.pairs.proofs.Loops.{alters-changed}
-use Rattle.pairs.proofs.Growing.{still-supply}
+use Rattle.list.proofs.Slots.{listAt-copied, list-there, still-source, still-slot}
+use Rattle.growing.proofs.Loops.{alters-changed}
+use Rattle.growing.proofs.Going.{standing-stands, begun-pairs}
+use Rattle.pairs.proofs.Zones.{still-supply}
 use Rattle.list.proofs.Copies.{copy-kept}
 
 module _ {ws us : List ℤ} {list n inner m copy : ℕ} (o : Operands ws list n inner m copy 0) (c : Copied list copy (n * 6) ws us) where
@@ -38,25 +40,35 @@ module _ {ws us : List ℤ} {list n inner m copy : ℕ} (o : Operands ws list n 
   same-copy = listAt-copied n c
 
   -- the lists after the copy can be combined still, and the copy has the list's zones
-  pub round-operands : Operands us list n inner m copy n
-  round-operands = record { lefts = still-supply (o .lefts) round-kept (o .lefts .list .few); rights = still-supply (o .rights) round-kept (o .lefts .list .few) }
+  module _ {g : Growing} (b : Begins n g) where
+    pub round-operands : Unsurpassed (g .latest) → Operands us list n inner m copy (g .count) × Stands us copy g × (g .pairs ≡ 0)
+    round-operands u =
+        let few = o .lefts .list .few in
+        let ready : Operands us list n inner m copy n = record { lefts = still-supply (o .lefts) round-kept few; rights = still-supply (o .rights) round-kept few } in
+        (subst (Operands us list n inner m copy) (sym (b .count)) ready, standing-stands b u (still-slot (o .lefts .slot) round-kept few) (subst Sound (sym same-copy) (o .lefts .list .sound)), b .pairs)
 
-  round-is : insert-each (pairs Compose (listAt us list n) (listAt us inner m)) (listAt us copy n) ≡ round (listAt ws inner m) (listAt ws list n)
-  unfolding round
-  round-is = rw (same-list, same-inner, same-copy)
+    copied : listAt us copy (g .count) ≡ listAt ws list n
+    copied = ap (listAt us copy) (b .count) ∙ same-copy
 
-  pub round-overflow : {P : Type 0} → (insert-each (pairs Compose (listAt us list n) (listAt us inner m)) (listAt us copy n) ≡ puts.overflow) × P → (round (listAt ws inner m) (listAt ws list n) ≡ puts.overflow) × P
-  round-overflow e = (sym round-is ∙ e .0, e .1)
+    round-is : insert-each (pairs Compose (listAt us list n) (listAt us inner m)) (listAt us copy (g .count)) ≡ round (listAt ws inner m) (listAt ws list n)
+    unfolding round
+    round-is = rw (same-list, same-inner, copied)
 
-  module _ {vs : List ℤ} {k : ℕ} {changed : Bool} (g : Growth (insert-each (pairs Compose (listAt us list n) (listAt us inner m)) (listAt us copy n)) false (listAt us copy n) vs copy k changed) where
-    altered : Alters changed (listAt ws list n) (g .list)
-    altered = g .alters (listAt ws list n) same-copy
+    pub round-overflow : {P : Type 0} → (insert-each (pairs Compose (listAt us list n) (listAt us inner m)) (listAt us copy (g .count)) ≡ puts.overflow) × P → (round (listAt ws inner m) (listAt ws list n) ≡ puts.overflow) × P
+    round-overflow e = (sym round-is ∙ e .0, e .1)
 
-    pub round-changes : changed ≡ true → Changes (listAt ws inner m) (listAt ws list n) vs copy k
-    round-changes e = record { list = g .list; value = sym round-is ∙ g .value; new = alters-changed (subst (λ (b : Bool). Alters b (listAt ws list n) (g .list)) e altered); holds = g .holds }
+    module _ {vs : List ℤ} {h : Growing} (w : Growth (insert-each (pairs Compose (listAt us list n) (listAt us inner m)) (listAt us copy (g .count))) (Counted Touching (crossed (listAt us list n) (listAt us inner m))) g (listAt us copy (g .count)) vs copy h) where
+      altered : Alters (h .changed) (listAt ws list n) (w .list)
+      altered = w .alters (listAt ws list n) (subst (λ (t : ℕ). Alters t (listAt ws list n) (listAt us copy (g .count))) (sym (b .changed)) copied)
 
-    pub round-same : Kept copy 768 us vs → changed ≡ false → (round (listAt ws inner m) (listAt ws list n) ≡ listed (listAt ws list n)) × Free vs copy
-    round-same f e = (sym round-is ∙ g .value ∙ ap listed (subst (λ (b : Bool). Alters b (listAt ws list n) (g .list)) e altered), omega (arith, o .lefts .slot .room, round-kept .same-length, f .same-length))
+      pub round-pairs : Counted Touching (crossed (listAt ws list n) (listAt ws inner m)) (h .pairs)
+      round-pairs = rw (same-list, same-inner) at (begun-pairs b w)
+
+      pub round-changes : ¬ (h .changed ≡ 0) → Changes (listAt ws inner m) (listAt ws list n) vs copy (h .count)
+      round-changes e = record { list = w .list; value = sym round-is ∙ w .value; new = alters-changed (h .changed) e altered; holds = w .holds }
+
+      pub round-same : Kept copy 768 us vs → h .changed ≡ 0 → (round (listAt ws inner m) (listAt ws list n) ≡ listed (listAt ws list n)) × Counted Touching (crossed (listAt ws list n) (listAt ws inner m)) (h .pairs) × Free vs copy
+      round-same f e = (sym round-is ∙ w .value ∙ ap listed (subst (λ (t : ℕ). Alters t (listAt ws list n) (w .list)) e altered), round-pairs, omega (arith, o .lefts .slot .room, round-kept .same-length, f .same-length))
 
 -- ---- a star: the inner list copied, the rounds, then the diagonal
 
@@ -86,7 +98,7 @@ module _ {ws us : List ℤ} {inner m target scratch : ℕ} (work : Workspace ws 
   begun-rounds P = subst (λ (I : List Zone). P (Rounds I I)) begun-inner
 
   pub begun-ending : {told : ℕ} {vs : List ℤ} {at n left : ℕ} → Ending (listAt us inner m) told target scratch vs at n left → Ending (listAt ws inner m) told target scratch vs at n left
-  begun-ending {told} {vs} {at} {n} {left} w = record { standing = begun-rounds (λ R. Standing R told vs at n left) (w .standing); place = w .place; first-free = w .first-free; second-free = w .second-free }
+  begun-ending {told} {vs} {at} {n} {left} w = record { standing = begun-rounds (λ R. Standing R told vs at n left) (w .standing); sound = w .sound; place = w .place; first-free = w .first-free; second-free = w .second-free }
 
 -- the last list stands in one of the two slots
 pub ending-room : {at a b size : ℕ} → (at ≡ a) ⊎ (at ≡ b) → a + 768 ≤ size → b + 768 ≤ size → at + 768 ≤ size
@@ -99,12 +111,15 @@ ending-apart (inr e) (inl h) = inr (inr (omega arith))
 ending-apart (inr e) (inr h) = inr (inl (omega arith))
 
 -- the diagonal put into the last list where that was brought
-module _ (diag : Zone) {L M : List Zone} (e : M ≡ L) where
-  pub put-overflow : {P : Type 0} → (insert-each (zone diag ∷ []) M ≡ puts.overflow) × P → (insert-each (zone diag ∷ []) L ≡ puts.overflow) × P
-  put-overflow h = (subst (λ (K : List Zone). insert-each (zone diag ∷ []) K ≡ puts.overflow) e (h .0), h .1)
+module _ (diag : Zone) {L : List Zone} (us : List ℤ) (target n : ℕ) {g : Growing} (b : Begins n g) (e : listAt us target n ≡ L) where
+  brought : listAt us target (g .count) ≡ L
+  brought = ap (listAt us target) (b .count) ∙ e
 
-  pub put-listing : {before changed : Bool} {vs : List ℤ} {target n : ℕ} → Growth (insert-each (zone diag ∷ []) M) before M vs target n changed → Listing (insert-each (zone diag ∷ []) L) vs target n
-  put-listing g = record { list = g .list; value = subst (λ (K : List Zone). insert-each (zone diag ∷ []) K ≡ listed (g .list)) e (g .value); holds = g .holds }
+  pub put-overflow : {P : Type 0} → (insert-each (zone diag ∷ []) (listAt us target (g .count)) ≡ puts.overflow) × P → (insert-each (zone diag ∷ []) L ≡ puts.overflow) × P
+  put-overflow o = (subst (λ (K : List Zone). insert-each (zone diag ∷ []) K ≡ puts.overflow) brought (o .0), o .1)
+
+  pub put-listing : {Counts : ℕ → Type 0} {h : Growing} {vs : List ℤ} → Growth (insert-each (zone diag ∷ []) (listAt us target (g .count))) Counts g (listAt us target (g .count)) vs target h → Listing (insert-each (zone diag ∷ []) L) vs target (h .count)
+  put-listing w = record { list = w .list; value = subst (λ (K : List Zone). insert-each (zone diag ∷ []) K ≡ listed (w .list)) brought (w .value); holds = w .holds }
 
 module _ {inner : List Zone} (diag : Zone) {told first second : ℕ} {us : List ℤ} {at n left : ℕ} (w : Ending inner told first second us at n left) where
   pub star-overflow : {P : Type 0} → (insert-each (zone diag ∷ []) (listAt us at n) ≡ puts.overflow) × P → Overflowed (Star inner diag) told left

@@ -116,8 +116,8 @@ module _ {inner m first second : ℕ} {ws₀ : List ℤ} (work : Workspace ws₀
         }
 
     -- the last round
-    pub turn-end : {vs : List ℤ} {told left : ℕ} → (made + 1) + left ≡ told → (round (listAt ws inner m) (listAt ws list n) ≡ listed (listAt ws list n)) × Free vs copy → Kept copy 768 ws vs → Ending (listAt ws₀ inner m) told first second vs list n left
-    turn-end {vs} q (e, _) f =
+    pub turn-end : {vs : List ℤ} {told left : ℕ} → (made + 1) + left ≡ told → round (listAt ws inner m) (listAt ws list n) ≡ listed (listAt ws list n) → Kept copy 768 ws vs → Ending (listAt ws₀ inner m) told first second vs list n left
+    turn-end {vs} q e f =
         record {
           standing =
               record {
@@ -127,6 +127,7 @@ module _ {inner m first second : ℕ} {ws₀ : List ℤ} (work : Workspace ws₀
                 spends = q;
                 holds = subst (Holds vs list n) (list-there list n f turn-apart (t .few)) (holds-same vs list n (t .few));
               };
+          sound = subst Sound (sym (list-there list n f turn-apart (t .few))) (after-proper (work .list .sound) (t .after));
           place = at-list (λ l c. (l ≡ first) ⊎ (l ≡ second)) (t .place) (inl refl) (inr refl);
           first-free = turn-frees f .0;
           second-free = turn-frees f .1;

@@ -8,7 +8,9 @@ use Rattle.zone.specs.declared.Zone.{Zone}
 use Rattle.list.specs.Insert.{listed, overflow}
 use Rattle.purse.specs.Purse.{Standing, Overflowed, Exceeding}
 use Rattle.star.specs.Star.{Rounds, round}
-use Rattle.list.specs.Slots.{Free, Holds}
+use Rattle.list.specs.Slots.{Free, listAt, Holds, Sound}
+use Rattle.pairs.specs.Counted.{Counted}
+use Rattle.pairs.specs.Pairs.{Touching, crossed}
 use Rattle.star.specs.declared.Round.{Round}
 use Rattle.star.specs.declared.Round.the-variants.{Same, Changed, Overflow}
 use Rattle.star.specs.declared.Ended.{Ended}
@@ -21,15 +23,16 @@ pub record Changes (inner L : List Zone) (vs : List ℤ) (copy n : ℕ) : Type 0
   pub new : ¬ (list ≡ L)
   pub holds : Holds vs copy n list
 
--- .. or the round changes nothing, or one of its puts would leave 129 zones; then the slot is free
+-- .. or the round changes nothing; each with as many pairs composed as touch. Or one of its puts would leave 129 zones. In both the slot is free
 abbrev pub RoundAs : List Zone → List Zone → List ℤ → ℕ → Round → Type 0
-RoundAs inner L vs copy Same = (round inner L ≡ listed L) × Free vs copy
-RoundAs inner L vs copy (Changed n) = Changes inner L vs copy n
+RoundAs inner L vs copy (Same pairs) = (round inner L ≡ listed L) × Counted Touching (crossed L inner) pairs × Free vs copy
+RoundAs inner L vs copy (Changed n pairs) = Changes inner L vs copy n × Counted Touching (crossed L inner) pairs
 RoundAs inner L vs copy Overflow = (round inner L ≡ overflow) × Free vs copy
 
 -- all rounds: the last list stands at `at`, one of the two slots, and the other is free
 pub record Ending (inner : List Zone) (told first second : ℕ) (vs : List ℤ) (at n left : ℕ) : Type 0 where
   pub standing : Standing (Rounds inner inner) told vs at n left
+  pub sound : Sound (listAt vs at n)
   pub place : (at ≡ first) ⊎ (at ≡ second)
   pub first-free : Free vs first
   pub second-free : Free vs second

@@ -1,11 +1,10 @@
 // The rounds of a star. They end, by the bound n + d on their number (proofs/Bound.antt), or with the rounds told.
 //
 // specs/Star.antt says what the rounds come to, over plain lists of zones.
+use growing::Grown;
 use operators::Listed;
-use pairs::Grown;
 use pairs::Operation;
 use purse::Evaluated;
-use words::ZONE_WORDS;
 use zone::Zone;
 ghost use mathlib.Core.Path.{_≡_};
 ghost use mathlib.Core.Logic.{_⊎_};
@@ -13,18 +12,18 @@ ghost use mathlib.Core.List.{[], _∷_};
 ghost use Prim.Native.Nat.{_≤_};
 ghost use Rattle.zone.specs.Zone.{diagonal};
 ghost use Rattle.zone.specs.declared.MaybeZone.the-variants.{Zone as zone};
-ghost use Rattle.list.specs.Insert.{capacity, insert-each};
-ghost use Rattle.list.specs.Slots.{slot-words, listAt, Free, Kept, KeptBoth, Disjoint};
+ghost use Rattle.list.specs.Insert.{insert-each};
+ghost use Rattle.list.specs.Slots.{slot-words, listAt, Free, Source, Kept, KeptBoth, Disjoint};
 ghost use Rattle.pairs.specs.Operands.{Operands};
 ghost use Rattle.operators.specs.Listing.{Workspace, BuiltAs};
 ghost use Rattle.purse.specs.Purse.{EvaluatedAs};
 ghost use Rattle.star.specs.Star.{Star};
 ghost use Rattle.star.specs.Steps.{RoundAs, EndsAs};
 
-// A round: it changed nothing, or the new list has so many zones.
+// A round: it changed nothing, or the new list has so many zones; and how many pairs it composed.
 enum Round {
-    Same,
-    Changed(usize),
+    Same { pairs: usize },
+    Changed { count: usize, pairs: usize },
     Overflow,
 }
 
@@ -35,14 +34,14 @@ enum Ended {
     Spent,
 }
 
-// One round: the list copied to `copy`, and there each listed zone's composition with each inner zone.
+// One round: the list copied to `copy`, and there each listed zone's composition with each inner zone that it touches.
 fn one_round(words: &mut [i32], list: usize, n: usize, inner: usize, m: usize, copy: usize) -> Round
     requires { ⌜ Operands (now words) list n inner m copy 0 ⌝ }
     ensures round { λ r. ⌜ RoundAs (listAt (now (words .entry)) inner m) (listAt (now (words .entry)) list n) (now (words .exit)) copy r ⌝ }
     ensures kept { λ _. ⌜ Kept copy slot-words (now (words .entry)) (now (words .exit)) ⌝ }
 {
     list::copy_zones(words, list, copy, n);
-    let Grown::Grew { count, changed } = pairs::each_pair(
+    let Grown::Grew(g) = products::each_pair(
         words,
         Operation::Compose,
         list,
@@ -50,19 +49,21 @@ fn one_round(words: &mut [i32], list: usize, n: usize, inner: usize, m: usize, c
         inner,
         m,
         copy,
-        n,
+        growing::standing(n),
     ) else {
         return Round::Overflow;
     };
-    if changed {
-        Round::Changed(count)
-    } else {
-        Round::Same
+    if g.changed == 0 {
+        return Round::Same { pairs: g.pairs };
+    }
+    Round::Changed {
+        count: g.count,
+        pairs: g.pairs,
     }
 }
 
 // All rounds of a star, from the inner list at `first` on. A round goes from the one slot to the other, so that only the
-// copy is made that a round is. None is begun beyond those told; that more would be begun then is known by the bound on rounds.
+// copy is made that a round is. NoPair is begun beyond those told; that more would be begun then is known by the bound on rounds.
 fn all_rounds(
     words: &mut [i32],
     inner: usize,
@@ -84,14 +85,14 @@ fn all_rounds(
             return Ended::Spent;
         }
         match one_round(words, list, n, inner, m, copy) {
-            Round::Same => {
+            Round::Same { pairs: _ } => {
                 return Ended::EndedAt {
                     at: list,
                     count: n,
                     left: left - 1,
                 };
             }
-            Round::Changed(k) => {
+            Round::Changed { count: k, pairs: _ } => {
                 left -= 1;
                 n = k;
                 let before = list;
@@ -107,17 +108,20 @@ fn all_rounds(
 
 // The list of n zones at `at`, brought to `target`, with the diagonal of ticks from..to put into it.
 fn close(words: &mut [i32], at: usize, n: usize, target: usize, from: u32, to: u32) -> Listed
-    requires { ⌜ (n ≤ capacity) × (Free (now words) at) × (Free (now words) target) × ((at ≡ target) ⊎ (Disjoint at target)) × (from ≤ to) × (to ≤ 1_000_000) ⌝ }
+    requires { ⌜ (Source (now words) at n) × (Free (now words) target) × ((at ≡ target) ⊎ (Disjoint at target)) × (from ≤ to) × (to ≤ 1_000_000) ⌝ }
     ensures built { λ r. ⌜ BuiltAs (insert-each (zone (diagonal from to) ∷ []) (listAt (now (words .entry)) at n)) (now (words .exit)) target r ⌝ }
     ensures kept { λ _. ⌜ Kept target slot-words (now (words .entry)) (now (words .exit)) ⌝ }
 {
     list::bring(words, at, n, target);
-    let mut w = [0i32; ZONE_WORDS];
-    words::write_zone(&mut w, 0, Zone::diagonal(from, to));
-    let Grown::Grew { count, changed: _ } = pairs::grow(words, target, n, false, &w) else {
+    let Grown::Grew(g) = growing::grow(
+        words,
+        target,
+        growing::standing(n),
+        Zone::diagonal(from, to),
+    ) else {
         return Listed::Overflow; // the diagonal would be the 129th
     };
-    Listed::Count(count)
+    Listed::Count(g.count)
 }
 
 // `*`: the rounds, and then the diagonal of ticks from..to, into the list at `target`. It may make as many rounds as it is told. The slot

@@ -9,6 +9,7 @@ use expression::Unary;
 use expression::Upper;
 use limit::Limit;
 use list::SLOT_WORDS;
+use operators::Composed;
 use operators::Listed;
 use purse::Evaluated;
 use zone::MaybeZone;
@@ -17,7 +18,7 @@ ghost use mathlib.Core.Path.{_≡_};
 ghost use Prim.Native.Nat.{_+_, _*_, _≤_};
 ghost use Rattle.limit.specs.Limit.{most-ticks};
 ghost use Rattle.list.specs.Slots.{slot-words, listAt, Kept, Source};
-ghost use Rattle.operators.specs.Operators.{banded};
+ghost use Rattle.operators.specs.Operators.{compositions, banded};
 ghost use Rattle.pairs.specs.Operands.{Operands};
 ghost use Rattle.operators.specs.Listing.{BuiltAs};
 ghost use Rattle.expression.specs.Refusal.{figure, Wrong};
@@ -31,6 +32,25 @@ ghost use Rattle.values.specs.Values.{Ticks, OperandAt};
 
 // The words of two slots: how far behind its operands' slots a list is built.
 const TWO_SLOTS: usize = 2 * SLOT_WORDS;
+
+// `.`: the list of it. How many pairs were composed is told no further.
+fn concatenation(
+    work: &mut [i32],
+    left: usize,
+    n: usize,
+    right: usize,
+    m: usize,
+    target: usize,
+) -> Listed
+    requires { ⌜ Operands (now work) left n right m target 0 ⌝ }
+    ensures built { λ r. ⌜ BuiltAs (compositions (listAt (now (work .entry)) left n) (listAt (now (work .entry)) right m)) (now (work .exit)) target r ⌝ }
+    ensures kept { λ _. ⌜ Kept target slot-words (now (work .entry)) (now (work .exit)) ⌝ }
+{
+    match operators::compositions(work, left, n, right, m, target) {
+        Composed::Finished { count, pairs: _ } => Listed::Count(count),
+        Composed::Overflow => Listed::Overflow,
+    }
+}
 
 // `|`, `&` and `.`: the list of the operator, from the lists of n and m zones at `left` and `right`, built at `target`.
 fn build(
@@ -49,7 +69,7 @@ fn build(
     match op {
         Join::Union => operators::union(work, left, n, right, m, target),
         Join::Intersection => operators::meets(work, left, n, right, m, target),
-        Join::Concatenation => operators::compositions(work, left, n, right, m, target),
+        Join::Concatenation => concatenation(work, left, n, right, m, target),
     }
 }
 

@@ -11,8 +11,12 @@ ghost use Rattle.limit.specs.Limit.{most-ticks, decode};
 ghost use Rattle.zone.specs.Zone.{Ranged};
 ghost use Rattle.words.specs.Words.{zone-words, word, codes, zoneAt, overwrite};
 
-// The words of a zone.
+// The words of a zone, and where those on its starts and on its ends begin.
 pub const ZONE_WORDS: usize = 6;
+
+pub const START: usize = 0;
+
+pub const END: usize = 2;
 
 fn limit_at(words: &[i32], at: usize) -> Limit
     requires { ⌜ at < length (now words) ⌝ }

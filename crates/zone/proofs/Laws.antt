@@ -163,6 +163,10 @@ contains-members z {w} = contains-means z w refl .members
 pub contains-in : (z w : Zone) → T (contains z w) → Includes z w
 contains-in z w t x y h = tightening.⊑-in (contains-⊑ z w .0 t) h
 
+-- .. and so for the limits on start
+pub contains-starts : (z w : Zone) → T (contains z w) → (w .start ≤ᴸ z .start) × (w .nstart ≤ᴸ z .nstart)
+contains-starts z w t = let i = contains-⊑ z w .0 t in (i .start, i .nstart)
+
 pub contains-refl : (z : Zone) → T (contains z z)
 contains-refl z = contains-⊑ z z .1 (record { start = order.≤-refl _; nstart = order.≤-refl _; end = order.≤-refl _; nend = order.≤-refl _; length = order.≤-refl _; nlength = order.≤-refl _ })
 

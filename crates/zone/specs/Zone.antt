@@ -40,6 +40,10 @@ pub record Inside (from to : ℕ) (z : Zone) : Type 0 where
 abbrev pub Includes : Zone → Zone → Type 0
 Includes z w = (x y : Time) → In w x y → In z x y
 
+-- some time is an end of a stretch of z and a start of one of w
+abbrev pub Touches : Zone → Zone → Type 0
+Touches z w = (x t y : Time) × In z x t × In w t y
+
 -- ---- the six limits by name, for what is said of each: limit k bounds `upper k` − `lower k`
 
 pub data Side : Type 0 where

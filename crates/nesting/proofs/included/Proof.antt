@@ -1,7 +1,7 @@
 use Rattle.zone.proofs.Means.{contains-means}
 use Rattle.zone.proofs.Steps.{is-true, is-false}
 use Rattle.limit.proofs.Steps.{with-meaning}
-use Rattle.nesting.proofs.Steps.{fails-here, fails-before, starts-decide, others-decide}
+use Rattle.nesting.proofs.Steps.{fails-here, fails-before, starts-decide, lengths-decide, ends-decide}
 use Rattle.words.specs.Words.{zoneAt}
 use Rattle.limit.specs.Limit.{at-most}
 use mathlib.Core.Path.{sym, _∙_}
@@ -26,12 +26,20 @@ returns-2 c =
 returns-3 : tie.Need-returns-3
 unfolding zoneAt
 returns-3 c =
-    let start = c .before .before .before .before .before .before .before .before in
+    let start = c .before .before .before .before .before .before .before in
     let z = zoneAt (start .args .outer .now) (start .args .j) in
     let w = zoneAt (start .args .inner .now) (start .args .i) in
-    with-meaning (contains-means z w) (others-decide z w (sym (c .before .before .before .before .before .before .before .word-at-most .ensures) ∙ is-true (c .before .before .before .before .before .before .if1 .left)) (sym (c .before .before .before .before .before .word-at-most2 .ensures) ∙ is-true (c .before .before .before .before .if2 .left)) (c .before .before .before .word-at-most3 .ensures) (c .before .before .word-at-most4 .ensures) (c .before .word-at-most5 .ensures) (c .word-at-most6 .ensures))
+    with-meaning (contains-means z w) (lengths-decide z w (c .before .before .word-at-most3 .ensures) (c .before .word-at-most4 .ensures) (is-false (c .if3 .taken)))
+
+returns-4 : tie.Need-returns-4
+unfolding zoneAt
+returns-4 c =
+    let start = c .before .before .before .before .before .before .before .before .before in
+    let z = zoneAt (start .args .outer .now) (start .args .j) in
+    let w = zoneAt (start .args .inner .now) (start .args .i) in
+    with-meaning (contains-means z w) (ends-decide z w (sym (c .before .before .before .before .before .before .before .before .word-at-most .ensures) ∙ is-true (c .before .before .before .before .before .before .before .if1 .left)) (sym (c .before .before .before .before .before .before .word-at-most2 .ensures) ∙ is-true (c .before .before .before .before .before .if2 .left)) (c .before .before .before .before .word-at-most3 .ensures) (c .before .before .before .word-at-most4 .ensures) (is-true (c .before .before .if3 .left)) (c .before .word-at-most5 .ensures) (c .word-at-most6 .ensures))
 
 pub included-spec : {M : Type 1} → statement M
 included-spec =
     tie.close
-    (tie.spec (λ c κs. search needs) returns (λ c. search needs) (λ c. search needs) (λ c κs. search needs) returns-2 (λ c. search needs) (λ c. search needs) (λ c κs. search needs) (λ c. search needs) (λ c. search needs) (λ c κs. search needs) (λ c. search needs) (λ c. search needs) (λ c κs. search needs) (λ c. search needs) (λ c. search needs) (λ c κs. search needs) returns-3)
+    (tie.spec (λ c κs. search needs) returns (λ c. search needs) (λ c. search needs) (λ c κs. search needs) returns-2 (λ c. search needs) (λ c. search needs) (λ c κs. search needs) (λ c. search needs) (λ c. search needs) (λ c κs. search needs) returns-3 (λ c. search needs) (λ c. search needs) (λ c κs. search needs) (λ c. search needs) (λ c. search needs) (λ c κs. search needs) returns-4)

@@ -3,7 +3,7 @@ use Rattle.operators.proofs.Listings.{band-kept, band-alone, sound-band
 use Rattle.list.proofs.Copies.{kept-both, kept-neither, disjoint-swap}
 use Rattle.list.proofs.Puts.{holds-same}
 use Rattle.list.specs.Slots.{listAt, Sound}
-use Rattle.operators.specs.Operators.{banded}
+use Rattle.operators.specs.Operators.{banded, meets}
 use Rattle.zone.proofs.Laws.{ranged}
 use native.Mathlib.Omega.{arith}
 use mathlib.Core.List.{[]}
@@ -19,8 +19,8 @@ returns c = (rw (c .enum-told .given .1) (record { list = []; value = refl; hold
 write-zone-requires : tie.Need-write-zone-requires
 write-zone-requires c κs = (omega arith, ranged (rw (c .before .before .limits .given .1) at (c .before .before .before .before .pre .1)))
 
-all-pairs-requires : tie.Need-all-pairs-requires
-all-pairs-requires c κs =
+meets-requires : tie.Need-meets-requires
+meets-requires c κs =
     let work = c .before .before .before .before .before .before .before .pre .0 in
     let the-limits = c .before .before .before .before .before .limits in
     let f = band-kept (the-limits .given .0 .0) _ _ (work .scratch-free) (c .before .before .write-zone .ensures) in
@@ -37,7 +37,7 @@ all-pairs-requires c κs =
     }
 
 returns-2 : tie.Need-returns-2
-unfolding banded
+unfolding banded meets
 returns-2 c =
     let start = c .before .before .before .before .before .before .before .before .before in
     let work = start .pre .0 in
@@ -45,11 +45,11 @@ returns-2 c =
     let the-write-zone = c .before .before .before .before .write-zone in
     let f = band-kept (the-limits .given .0 .0) _ _ (work .scratch-free) (the-write-zone .ensures) in
     let same = list-there (start .args .source) (start .args .n) f (work .scratch-apart) (work .list .few) in (
-      rw (the-limits .given .1) (rw (same, band-alone (the-limits .given .0 .0) _ _ (work .scratch-free) (the-write-zone .ensures)) at (c .before .all-pairs .ensures .0)),
-      (kept-both f (c .before .all-pairs .ensures .1), omega (arith, work .scratch-free, f .same-length, c .before .all-pairs .ensures .1 .same-length)),
+      rw (the-limits .given .1) (rw (same, band-alone (the-limits .given .0 .0) _ _ (work .scratch-free) (the-write-zone .ensures)) at (c .before .meets .ensures .0)),
+      (kept-both f (c .before .meets .ensures .1), omega (arith, work .scratch-free, f .same-length, c .before .meets .ensures .1 .same-length)),
     )
 
 pub band-spec : {M : Type 1} → statement M
 band-spec =
     tie.close
-    (tie.spec (λ c. search needs) (λ c. search needs) returns write-zone-requires all-pairs-requires (λ c. search needs) returns-2)
+    (tie.spec (λ c. search needs) (λ c. search needs) returns write-zone-requires meets-requires (λ c. search needs) returns-2)

@@ -8,7 +8,7 @@ use Rattle.operators.proofs.grow_from.Tie as tie
 returns : tie.Need-returns
 returns c =
     let start = c .before .before .before .before .before .before .before .before in
-    rw (held (zoneAt (start .args .words .now) (start .args .at)) _ (c .before .before .before .before .before .copy-zone .ensures) (omega arith)) at (c .before .grow .ensures)
+    rw (held (zoneAt (start .args .words .now) (start .args .at)) _ (c .before .before .before .before .before .copy-zone .ensures) (omega arith)) at (c .before .grow-words .ensures)
 
 pub grow-from-spec : {M : Type 1} → statement M
 grow-from-spec =

@@ -1,34 +1,23 @@
--- `point` meets its contract: one put into an empty list, which is placed.
-use mathlib.Core.List.{[], _∷_}
+-- `point` meets its contract: one put into an empty list.
 use native.Mathlib.Omega.{arith}
 use borrow.Author.Needs.{needs}
-use types.Run.{miss}
 use Rattle.zone.proofs.Laws.{proper-diagonal, ranged, ranged-more}
-use Rattle.zone.specs.Zone.{diagonal}
-use Rattle.list.specs.Slots.{listAt}
-use Rattle.list.specs.declared.Inserted.the-variants.{Placed}
-use Rattle.values.proofs.Standings.{stands}
-use Rattle.primaries.proofs.Puts.{first-placed, put-built, put-kept}
+use Rattle.growing.proofs.Going.{begun-stands}
+use Rattle.operators.proofs.Listings.{begun-listing, begun-overflow}
+use Rattle.values.proofs.Standings.{stands, over}
 use Rattle.primaries.proofs.point.Statement.{statement}
 use Rattle.primaries.proofs.point.Tie as tie
 
-insert-requires : tie.Need-insert-requires
-insert-requires c κs = (record { few = omega arith; room = c .before .before .pre .1 }, rw (c .diagonal .ensures .0) (ranged-more (c .before .before .pre .0 .small) (ranged (proper-diagonal _ _ (c .before .before .pre .0 .forward)))))
+grow-requires : tie.Need-grow-requires
+grow-requires c κs =
+    let start = c .before .before .before in
+    (begun-stands (c .before .nothing .ensures) (record { few = omega arith; room = start .pre .1 }), rw (c .diagonal .ensures .0) (ranged-more (start .pre .0 .small) (ranged (proper-diagonal _ _ (start .pre .0 .forward)))))
 
 returns : tie.Need-returns
-returns c =
-    let start = c .before .before .before .before .before in
-    absurd (let e = first-placed (c .before .before .before .diagonal .result) (start .args .work .now) (c .before .before .insert .last .0) (start .args .base) (c .before .before .insert .result) (c .before .before .insert .ensures) in miss (0 ∷ 2 ∷ []) 1 tt (rw (e .1) at (c .match .keys2)))
+returns c = (over _ (begun-overflow _ _ _ (c .before .before .before .before .before .nothing .ensures) (rw (c .before .before .before .before .diagonal .ensures .0, c .enum-told .given .1) at (c .before .before .before .grow .ensures .0)) .0), c .before .before .before .grow .ensures .1)
 
 returns-2 : tie.Need-returns-2
-unfolding listAt
-returns-2 c =
-    let start = c .before .before .before .before .before .before .before in
-    let z = diagonal (start .args .from) (start .args .to) in
-    let a = rw (c .before .before .before .before .before .diagonal .ensures .0, c .before .count .given .1) at (c .before .before .before .before .insert .ensures) in
-    let r = Placed (c .before .count .given .0 .0) in
-    let room = c .before .before .before .before .before .before .before .pre .1 in
-    (stands _ (put-built z _ _ _ _ (record { few = omega arith; room = room }) r a), put-kept z _ _ _ _ (record { few = omega arith; room = room }) r a)
+returns-2 c = (stands _ (begun-listing _ _ _ (c .before .before .before .before .before .before .nothing .ensures) (rw (c .before .before .before .before .before .diagonal .ensures .0, c .before .g .given .1) at (c .before .before .before .before .grow .ensures .0))), c .before .before .before .before .grow .ensures .1)
 
 pub point-spec : {M : Type 1} → statement M
-point-spec = tie.close (tie.spec (λ c κs. search needs) insert-requires (λ c. search needs) (λ c. search needs) returns (λ c. search needs) returns-2)
+point-spec = tie.close (tie.spec (λ c κs. search needs) (λ c κs. search needs) grow-requires (λ c. search needs) (λ c. search needs) (λ c. search needs) returns (λ c. search needs) returns-2)

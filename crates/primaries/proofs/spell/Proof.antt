@@ -4,6 +4,7 @@ use mathlib.Core.Path.{_∙_}
 use native.Mathlib.Omega.{arith}
 use borrow.Author.Needs.{needs}
 use Rattle.list.proofs.Slots.{kept-trans}
+use Rattle.list.proofs.Puts.{held}
 use Rattle.runs.specs.Scan.{position}
 use Rattle.primaries.proofs.Spelling.{Spelt, spelt-none, spelt-all, spelt-skip, spelt-more, spelt-over, mark-ranged}
 use Rattle.primaries.proofs.Windows.{looks-ticks}
@@ -11,16 +12,16 @@ use Rattle.primaries.proofs.spell.Statement.{statement}
 use Rattle.primaries.proofs.spell.Tie as tie
 
 abbrev Inv-loop : tie.InvT-loop
-Inv-loop bytes window channel level mark work₀ base told cursor₀ count₀ work cursor count = Spelt bytes channel level mark (window .from) (window .to) cursor base work₀ work count
+Inv-loop bytes window channel level mark work₀ base told cursor₀ grown₀ work cursor grown = Spelt bytes channel level mark (window .from) (window .to) cursor base work₀ work grown
 
 abbrev μ-loop : tie.MeasureT-loop
-μ-loop bytes window channel level mark work₀ base told cursor₀ count₀ work cursor count = window .to - position bytes (window .from) (window .to) cursor
+μ-loop bytes window channel level mark work₀ base told cursor₀ grown₀ work cursor grown = window .to - position bytes (window .from) (window .to) cursor
 
 loop-holds : tie.Need-loop-holds Inv-loop μ-loop
-loop-holds c = spelt-none _ _ _ _ _ _ _ _
+loop-holds c = spelt-none _ _ _ _ _ _ _ _ _ (c .nothing .ensures) (c .before .before .pre .1)
 
 next-run-requires : tie.Need-next-run-requires Inv-loop μ-loop
-next-run-requires c κs = c .before .before .pre .0 .read
+next-run-requires c κs = c .before .before .before .pre .0 .read
 
 same-length : tie.Need-same-length Inv-loop μ-loop
 same-length c = c .before .before .before .loop .inv .frame .same-length
@@ -31,7 +32,7 @@ returns c = (spelt-all _ _ _ _ _ _ (c .before .before .before .loop .inv) _ (rw 
 mark-of-requires : tie.Need-mark-of-requires Inv-loop μ-loop
 mark-of-requires c κs =
     let f = (rw (c .before .run .given .1) at (c .before .before .before .next-run .ensures)) .0 in
-    let t = looks-ticks (c .before .before .before .before .before .before .pre .0) .small in
+    let t = looks-ticks (c .before .before .before .before .before .before .before .pre .0) .small in
     (omega (arith, f .some, f .upper), omega (arith, f .upper))
 
 -- a run without a mark
@@ -44,35 +45,30 @@ loop-again c =
     spelt-skip _ _ _ _ _ _ (c .before .before .before .before .before .before .before .loop .inv) _ _ n (c .before .before .mark-of .ensures) (c .enum-told2 .given .1)
 
 -- a run with one
-put-requires : tie.Need-put-requires Inv-loop μ-loop
-put-requires c κs =
-    let start = c .before .before .before .before .before .before .before .before .before .before .before in
-    let turn = c .before .before .before .before .before .before .before .before .before in
-    let f = (rw (c .before .before .before .before .before .before .run .given .1) at (c .before .before .before .before .before .before .before .before .next-run .ensures)) .0 in (
-      record { few = turn .loop .inv .few; room = omega (arith, turn .loop .inv .frame .same-length) },
-      mark-ranged (start .args .mark) (c .before .before .before .before .before .before .run .given .0 .0) f (looks-ticks (start .pre .0) .small) (c .before .before .before .before .mark-of .ensures) (c .before .before .z .given .1),
-    )
+write-zone-requires : tie.Need-write-zone-requires Inv-loop μ-loop
+write-zone-requires c κs =
+    let start = c .before .before .before .before .before .before .before .before .before .before .before .before in
+    let f = (rw (c .before .before .before .before .before .before .run .given .1) at (c .before .before .before .before .before .before .before .before .next-run .ensures)) .0 in
+    (omega arith, mark-ranged (start .args .mark) (c .before .before .before .before .before .before .run .given .0 .0) f (looks-ticks (start .pre .0) .small) (c .before .before .before .before .mark-of .ensures) (c .before .before .z .given .1))
 
 same-length-2 : tie.Need-same-length-2 Inv-loop μ-loop
-same-length-2 c = c .before .before .before .put .ensures .1 .same-length ∙ c .before .before .before .before .before .before .before .before .before .before .before .before .before .loop .inv .frame .same-length
+same-length-2 c = c .before .before .before .grow-words .ensures .1 .same-length ∙ c .before .before .before .before .before .before .before .before .before .before .before .before .before .before .before .before .before .loop .inv .frame .same-length
 
 returns-2 : tie.Need-returns-2 Inv-loop μ-loop
 returns-2 c =
-    let turn = c .before .before .before .before .before .before .before .before .before .before .before .before .before in
-    let n = rw (c .before .before .before .before .before .before .before .before .before .before .run .given .1) at (c .before .before .before .before .before .before .before .before .before .before .before .before .next-run .ensures) in
-    let over = rw (c .enum-told3 .given .1) at (c .before .before .before .put .ensures .0) in
-    (spelt-over _ _ _ _ _ _ (turn .loop .inv) _ _ n (c .before .before .before .before .before .before .before .before .mark-of .ensures) _ (rw (c .before .before .before .before .before .before .z .given .1) (over .0)), kept-trans (turn .loop .inv .frame) (c .before .before .before .put .ensures .1))
+    let turn = c .before .before .before .before .before .before .before .before .before .before .before .before .before .before .before .before .before in
+    let n = rw (c .before .before .before .before .before .before .before .before .before .before .before .before .before .before .run .given .1) at (c .before .before .before .before .before .before .before .before .before .before .before .before .before .before .before .before .next-run .ensures) in
+    let over = rw (held (c .before .before .before .before .before .before .before .before .before .before .z .given .0 .0) _ (c .before .before .before .before .before .before .before .write-zone .ensures) (omega arith), c .enum-told3 .given .1) at (c .before .before .before .grow-words .ensures .0) in
+    (spelt-over _ _ _ _ _ _ (turn .loop .inv) _ _ n (c .before .before .before .before .before .before .before .before .before .before .before .before .mark-of .ensures) _ (rw (c .before .before .before .before .before .before .before .before .before .before .z .given .1) (over .0)), kept-trans (turn .loop .inv .frame) (c .before .before .before .grow-words .ensures .1))
 
 loop-less-2 : tie.Need-loop-less-2 Inv-loop μ-loop
-loop-less-2 c = let n = rw (c .before .before .before .before .before .before .before .before .before .before .before .run .given .1) at (c .before .before .before .before .before .before .before .before .before .before .before .before .before .next-run .ensures) in omega (arith, n .0 .ahead, n .0 .some, n .0 .upper, n .1)
+loop-less-2 c = let n = rw (c .before .before .before .before .before .before .before .before .before .before .before .before .before .before .before .run .given .1) at (c .before .before .before .before .before .before .before .before .before .before .before .before .before .before .before .before .before .next-run .ensures) in omega (arith, n .0 .ahead, n .0 .some, n .0 .upper, n .1)
 
 loop-again-2 : tie.Need-loop-again-2 Inv-loop μ-loop
 loop-again-2 c =
-    let turn = c .before .before .before .before .before .before .before .before .before .before .before .before .before .before in
-    let n = rw (c .before .before .before .before .before .before .before .before .before .before .before .run .given .1) at (c .before .before .before .before .before .before .before .before .before .before .before .before .before .next-run .ensures) in
-    let the-put = c .before .before .before .before .put in
-    let built = rw (c .before .n .given .1) at (the-put .ensures .0) in
-    spelt-more _ _ _ _ _ _ (turn .loop .inv) _ _ n (c .before .before .before .before .before .before .before .before .before .mark-of .ensures) (rw (c .before .before .before .before .before .before .before .z .given .1) built) (the-put .ensures .1)
+    let n = rw (c .before .before .before .before .before .before .before .before .before .before .before .before .before .before .before .run .given .1) at (c .before .before .before .before .before .before .before .before .before .before .before .before .before .before .before .before .before .next-run .ensures) in
+    let built = rw (held (c .before .before .before .before .before .before .before .before .before .before .before .z .given .0 .0) _ (c .before .before .before .before .before .before .before .before .write-zone .ensures) (omega arith), c .before .next .given .1) at (c .before .before .before .before .grow-words .ensures .0) in
+    spelt-more _ _ _ _ _ _ (c .before .before .before .before .before .before .before .before .before .before .before .before .before .before .before .before .before .before .loop .inv) _ _ n (c .before .before .before .before .before .before .before .before .before .before .before .before .before .mark-of .ensures) (rw (c .before .before .before .before .before .before .before .before .before .before .before .z .given .1) built) (c .before .before .before .before .grow-words .ensures .1)
 
 pub spell-spec : {M : Type 1} → statement M
 spell-spec =
@@ -80,6 +76,7 @@ spell-spec =
     (tie.spec
     Inv-loop
     μ-loop
+    (λ c κs. search needs)
     loop-holds
     next-run-requires
     (λ c. search needs)
@@ -91,7 +88,9 @@ spell-spec =
     (λ c. search needs)
     loop-less
     loop-again
-    put-requires
+    (λ c. search needs)
+    write-zone-requires
+    (λ c κs. c .before .before .before .before .before .before .before .before .before .before .before .before .before .loop .inv .stands)
     (λ c. search needs)
     (λ c. search needs)
     same-length-2

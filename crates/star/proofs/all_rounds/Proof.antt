@@ -33,7 +33,7 @@ returns-2 c =
     let start = c .before .before .before .before .before .before .before in
     let turn = c .before .before .before .before .before .before in
     let the-round = c .before .before .before .one-round in
-    (turn-end (start .pre .0) (turn .loop .inv .1) (omega (arith, turn .loop .inv .0)) (rw (c .enum-told .given .1) at (the-round .ensures .0)) (the-round .ensures .1), turn-kept (start .pre .0) (turn .loop .inv .1) (the-round .ensures .1))
+    (turn-end (start .pre .0) (turn .loop .inv .1) (omega (arith, turn .loop .inv .0)) ((rw (c .enum-told .given .1) at (the-round .ensures .0)) .0) (the-round .ensures .1), turn-kept (start .pre .0) (turn .loop .inv .1) (the-round .ensures .1))
 
 loop-less : tie.Need-loop-less Inv-loop μ-loop
 loop-less c = omega arith
@@ -43,7 +43,7 @@ loop-again c =
     let start = c .before .before .before .before .before .before .before .before in
     let turn = c .before .before .before .before .before .before .before in
     let the-round = c .before .before .before .before .one-round in
-    (omega (arith, turn .loop .inv .0), subst (Turning _ _ _ _ _ _ _ _ _) (omega (arith, turn .loop .inv .0)) (turn-next (start .pre .0) (turn .loop .inv .1) (rw (c .before .k .given .1) at (the-round .ensures .0)) (the-round .ensures .1)))
+    (omega (arith, turn .loop .inv .0), subst (Turning _ _ _ _ _ _ _ _ _) (omega (arith, turn .loop .inv .0)) (turn-next (start .pre .0) (turn .loop .inv .1) ((rw (c .before .k .given .1) at (the-round .ensures .0)) .0) (the-round .ensures .1)))
 
 same-length-3 : tie.Need-same-length-3 Inv-loop μ-loop
 same-length-3 c = c .before .before .before .one-round .ensures .1 .same-length ∙ c .before .before .before .before .before .before .loop .inv .1 .frame .same-length

@@ -20,7 +20,7 @@ close-requires : tie.Need-close-requires
 close-requires c κs =
     let start = c .before .before .before .before .before .before .before .before .before .before in
     let w = rw (c .before .before .at .given .1) at (c .before .before .before .before .before .all-rounds .ensures .0) in
-    (w .standing .holds .few, ending-room (w .place) (w .first-free) (w .second-free), w .first-free, ending-apart (w .place) (start .pre .0 .both-apart), start .pre .1, start .pre .2)
+    (record { few = w .standing .holds .few; room = ending-room (w .place) (w .first-free) (w .second-free); sound = w .sound }, w .first-free, ending-apart (w .place) (start .pre .0 .both-apart), start .pre .1, start .pre .2)
 
 returns : tie.Need-returns
 returns c =

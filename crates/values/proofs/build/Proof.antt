@@ -10,7 +10,7 @@ returns-2 : tie.Need-returns-2
 returns-2 c = (rw (c .before .before .before .enum-told2 .given .1) (c .before .meets .ensures .0), c .before .meets .ensures .1)
 
 returns-3 : tie.Need-returns-3
-returns-3 c = (rw (c .before .before .before .enum-told3 .given .1) (c .before .compositions .ensures .0), c .before .compositions .ensures .1)
+returns-3 c = (rw (c .before .before .before .enum-told3 .given .1) (c .before .concatenation .ensures .0), c .before .concatenation .ensures .1)
 
 pub build-spec : {M : Type 1} → statement M
 build-spec =

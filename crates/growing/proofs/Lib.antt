@@ -1,0 +1,4 @@
+pub mod Loops
+pub mod Late
+pub mod Puts
+pub mod Going
