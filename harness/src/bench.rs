@@ -307,15 +307,16 @@ fn switching_ticks(rng: &mut Rng, count: usize, ticks: u32) -> Vec<u32> {
     chosen.into_iter().collect()
 }
 
-/// A recording in which channel k switches at the k-th list of ticks.
+/// A recording in which channel k switches at the k-th list of ticks. All channels are reported from
+/// tick 0 on, low until they switch.
 fn channels_switching(ticks: u32, switches: &[Vec<u32>]) -> Vec<u8> {
     let mut all: Vec<(u32, u16)> = Vec::new();
     for (channel, ticks) in switches.iter().enumerate() {
         all.extend(ticks.iter().map(|&tick| (tick, 1 << channel)));
     }
     all.sort_unstable();
-    let mut changes: Vec<Change> = Vec::new();
     let mut levels = 0;
+    let mut changes = vec![Change { time: 0, levels }];
     for (at, switched) in all {
         levels ^= switched;
         match changes.last_mut() {

@@ -159,9 +159,15 @@ fn report(found: Option<(usize, usize)>, parts: usize, fault: &str) -> Result<()
     })
 }
 
+/// Whether a channel is high in a tick with these levels; neither high nor low where there is no
+/// report.
+fn level(levels: Option<u16>, channel: u8) -> Option<bool> {
+    levels.map(|levels| levels >> channel & 1 == 1)
+}
+
 struct Grid {
-    /// The levels in each tick.
-    levels: Vec<u16>,
+    /// The levels in each tick, none before the first report.
+    levels: Vec<Option<u16>>,
     parts: usize,
     /// Whether each composition is settled, so that cuts off the grid count too.
     settled: bool,
@@ -195,7 +201,7 @@ impl Grid {
 
     fn letter(&self, channel: u8, high: bool) -> Table {
         let mut table = self.empty();
-        let fits = |levels: &u16| (levels >> channel & 1 == 1) == high;
+        let fits = |&levels: &Option<u16>| level(levels, channel) == Some(high);
         for (start, end) in table.stretches() {
             // The ticks that the open stretch overlaps.
             let ticks = start / self.parts..end.div_ceil(self.parts);
@@ -207,18 +213,13 @@ impl Grid {
     }
 
     /// The stretches of length 0 at a whole tick s, 0 < s < d, where the channel is low in tick s - 1
-    /// and high in tick s; for a fall the opposite.
+    /// and high in tick s; for a fall the opposite. Both ticks are reported.
     fn event(&self, channel: u8, rise: bool) -> Table {
         let mut table = self.empty();
-        let high_in = |tick: usize| self.levels[tick] >> channel & 1 == 1;
+        let (before, after) = if rise { (false, true) } else { (true, false) };
         for s in 1..self.levels.len() {
-            let (before, after) = (high_in(s - 1), high_in(s));
-            let fits = if rise {
-                !before && after
-            } else {
-                before && !after
-            };
-            if fits {
+            let levels = [s - 1, s].map(|tick| level(self.levels[tick], channel));
+            if levels == [Some(before), Some(after)] {
                 table.add(s * self.parts, s * self.parts);
             }
         }
@@ -372,7 +373,7 @@ pub fn stand_in(start: usize, end: usize) -> (usize, usize) {
 #[cfg(test)]
 mod tests {
     use super::*;
-    use crate::examples::recording_r;
+    use crate::examples::{low_start_r, recording, recording_r};
     use crate::random::{self, Rng, Taste};
     use crate::recording::Head;
 
@@ -388,19 +389,28 @@ mod tests {
     }
 
     /// Definition 3 for one stretch, by plain recursion over the cuts of a grid.
-    fn fits_directly(drill: &Drill, levels: &[u16], parts: usize, s: usize, e: usize) -> bool {
+    fn fits_directly(
+        drill: &Drill,
+        levels: &[Option<u16>],
+        parts: usize,
+        s: usize,
+        e: usize,
+    ) -> bool {
         let fits = |drill: &Drill, s, e| fits_directly(drill, levels, parts, s, e);
+        // Whether a channel is reported in a part of the grid, and is high or low there.
+        let is = |channel: u8, high: bool, part: usize| {
+            let levels = levels[part / parts];
+            levels.is_some_and(|levels| (levels >> channel & 1 == 1) == high)
+        };
         match drill {
             Drill::Empty => s == e,
             Drill::Letter { channel, high } => {
-                let high_at = |part: usize| levels[part / parts] >> channel & 1 == 1;
-                s < e && (s..e).all(|part| high_at(part) == *high)
+                s < e && (s..e).all(|part| is(*channel, *high, part))
             }
             // The parts of the grid on either side of the stretch, which are parts of two ticks.
             Drill::Event { channel, rise } => {
-                let high_at = |part: usize| levels[part / parts] >> channel & 1 == 1;
                 let between_ticks = s.is_multiple_of(parts) && 0 < s && s < parts * levels.len();
-                s == e && between_ticks && high_at(s - 1) != *rise && high_at(s) == *rise
+                s == e && between_ticks && is(*channel, !rise, s - 1) && is(*channel, *rise, s)
             }
             Drill::Then(left, right) => {
                 (s..=e).any(|cut| fits(left, s, cut) && fits(right, cut, e))
@@ -478,16 +488,18 @@ mod tests {
         assert_eq!(fits("(a{<2,<3})*{0,<5}"), [false, false, true]);
     }
 
-    /// In sixths of R, where `a` rises at 2 and falls at 7.
+    /// All stretches that fit, their ends in sixths.
+    fn fitting(bytes: &[u8], text: &str) -> Vec<(usize, usize)> {
+        let recording = Recording::read(bytes).unwrap();
+        let table = exact(&drill(text), &recording);
+        let stretches = table.stretches();
+        stretches.filter(|&(s, e)| table.has(s, e)).collect()
+    }
+
+    /// In sixths of R with a low start, where `a` rises at 2 and falls at 7.
     #[test]
     fn an_event_is_a_whole_tick_and_nothing_beside_it() {
-        let all = |text: &str| -> Vec<(usize, usize)> {
-            let bytes = recording_r();
-            let recording = Recording::read(&bytes).unwrap();
-            let table = exact(&drill(text), &recording);
-            let stretches = table.stretches();
-            stretches.filter(|&(s, e)| table.has(s, e)).collect()
-        };
+        let all = |text: &str| fitting(&low_start_r(), text);
         assert_eq!(all("+a"), [(12, 12)]);
         assert_eq!(all("-a"), [(42, 42)]);
         assert_eq!(all("+a|-a"), [(12, 12), (42, 42)]);
@@ -503,13 +515,45 @@ mod tests {
         assert_eq!(all("(+a|-a)*"), all("_"));
     }
 
+    /// All stretches with a start from this one on, and those of length 0, in sixths of 10 ticks.
+    fn from_on(first: usize) -> Vec<(usize, usize)> {
+        let ends = |start| start..=60;
+        let stretches = (0..=60).flat_map(|start| ends(start).map(move |end| (start, end)));
+        stretches.filter(|&(s, e)| first <= s || s == e).collect()
+    }
+
     #[test]
-    fn every_stretch_has_its_levels() {
-        let bytes = recording_r();
-        let recording = Recording::read(&bytes).unwrap();
-        let table = exact(&drill("(a|!a)*"), &recording);
-        assert_eq!(table.size(), 61 * 62 / 2);
-        assert!(table.stretches().all(|(start, end)| table.has(start, end)));
+    fn every_reported_stretch_has_its_levels() {
+        assert_eq!(from_on(0).len(), 61 * 62 / 2);
+        assert_eq!(fitting(&low_start_r(), "(a|!a)*"), from_on(0));
+        assert_eq!(fitting(&recording_r(), "(a|!a)*"), from_on(12));
+    }
+
+    /// Nothing fits a letter that overlaps a tick without a report, by however little, and the first
+    /// report is no event.
+    #[test]
+    fn letters_and_events_need_reports() {
+        let lasting = |first: usize, last: usize| {
+            let starts = first..=last;
+            let with_ends = |s| (s + 1..=last).map(move |e| (s, e));
+            starts.flat_map(with_ends).collect::<Vec<_>>()
+        };
+        assert_eq!(fitting(&recording_r(), "a"), lasting(12, 42));
+        assert_eq!(fitting(&recording_r(), "!a"), lasting(42, 60));
+        assert_eq!(fitting(&recording_r(), "+a"), []);
+        assert_eq!(fitting(&recording_r(), "-a"), [(42, 42)]);
+        for changes in [&[][..], &[(96, 1)], &[(96, 0)]] {
+            let unreported = recording(104, 1, changes);
+            for none in ["a", "!a", "+a", "-a", "a|!a.a", "!a{0,1}", "_.!a"] {
+                assert_eq!(fitting(&unreported, none), [], "{none}");
+            }
+            for moments in ["_", "!a*", "(a|!a)*", "!a|_"] {
+                assert_eq!(fitting(&unreported, moments), from_on(60), "{moments}");
+            }
+        }
+        let last_tick = recording(104, 1, &[(94, 0)]);
+        assert_eq!(fitting(&last_tick, "!a"), lasting(54, 60));
+        assert_eq!(fitting(&last_tick, "a|+a|-a"), []);
     }
 
     #[test]
@@ -579,7 +623,7 @@ mod tests {
     /// With a star there is no such grid, but a fine one comes close enough for short drives.
     #[test]
     fn moving_times_agrees_with_a_fine_grid_for_stars() {
-        let bytes = recording_r();
+        let bytes = low_start_r();
         let recording = Recording::read(&bytes).unwrap();
         for text in [
             "(a{2,2})*",

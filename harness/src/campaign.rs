@@ -365,6 +365,9 @@ fn check_accepted(
     tally.halves_down += u64::from(times(&input.recording).any(is_half_down));
     tally.rises += u64::from(has_event(&drill, &recording, true));
     tally.falls += u64::from(has_event(&drill, &recording, false));
+    if asks_for_low_or_event(&drill) {
+        tally.first_reports.note(recording.first_report());
+    }
     if recording.ticks() <= MAX_BRUTE_TICKS {
         tally.stretches += brute::compare(&drill, &recording, zones)?;
     }
@@ -379,6 +382,17 @@ fn has_event(drill: &Drill, recording: &Recording, wanted: bool) -> bool {
             if *rise == wanted && recording.has_event(*channel, *rise))
     };
     drill.count(&is_there) > 0
+}
+
+/// Whether a `!` and a letter or an event stands in the drill.
+fn asks_for_low_or_event(drill: &Drill) -> bool {
+    let asks = |part: &Drill| {
+        matches!(
+            part,
+            Drill::Letter { high: false, .. } | Drill::Event { .. }
+        )
+    };
+    drill.count(&asks) > 0
 }
 
 /// Whether a time lies halfway between two ticks of which the lower is even: here, and nowhere
@@ -406,7 +420,7 @@ fn lengths(lent: &Lent) -> String {
 #[cfg(test)]
 mod tests {
     use super::*;
-    use crate::examples::{recording, recording_r};
+    use crate::examples::{low_start_r, recording, recording_r};
     use crate::recording::tick;
 
     #[test]
@@ -430,7 +444,8 @@ mod tests {
         }
     }
 
-    /// On R, `a` rises once and falls once; where it is high from the start on, it only falls.
+    /// On R with a low start, `a` rises once and falls once; on R itself, and where it is high from the
+    /// start on, it only falls.
     #[test]
     fn events_count_where_they_list_a_zone() {
         let counted = |bytes: &[u8], text: &str| {
@@ -438,12 +453,28 @@ mod tests {
             let drill = Drill::read(text.as_bytes(), 1).expect(text);
             [true, false].map(|rise| has_event(&drill, &recording, rise))
         };
-        let r = recording_r();
-        assert_eq!(counted(&r, "+a"), [true, false]);
-        assert_eq!(counted(&r, "(a.-a)*|_"), [false, true]);
-        assert_eq!(counted(&r, "+a.-a"), [true, true]);
-        assert_eq!(counted(&r, "a.!a"), [false, false]);
+        let low_start = low_start_r();
+        assert_eq!(counted(&low_start, "+a"), [true, false]);
+        assert_eq!(counted(&low_start, "(a.-a)*|_"), [false, true]);
+        assert_eq!(counted(&low_start, "+a.-a"), [true, true]);
+        assert_eq!(counted(&low_start, "a.!a"), [false, false]);
+        assert_eq!(counted(&recording_r(), "+a.-a"), [false, true]);
         let from_the_start = recording(100, 1, &[(0, 1), (50, 0)]);
         assert_eq!(counted(&from_the_start, "+a|-a"), [false, true]);
+    }
+
+    #[test]
+    fn what_is_before_the_first_report_shows_in_low_channels_and_events() {
+        for (text, asks) in [
+            ("a", false),
+            ("_.(a|a{1,2})*", false),
+            ("!a", true),
+            ("(a.!a)*", true),
+            ("_|+a", true),
+            ("a&-a", true),
+        ] {
+            let drill = Drill::read(text.as_bytes(), 1).expect(text);
+            assert_eq!(asks_for_low_or_event(&drill), asks, "{text}");
+        }
     }
 }

@@ -8,8 +8,9 @@
 //! recording and the drill. Before the call, word i of either buffer is i.
 
 use crate::brute;
-use crate::examples::{pulses, recording, recording_r};
+use crate::examples::{late_pulses, low_start_r, pulses, recording, recording_r};
 use crate::finder::{find, front, listed, Returned, WORK_WORDS};
+use crate::first_reports;
 use crate::recording::{MAX_LENGTH, RECORD};
 use crate::sheet;
 use crate::zone::WORDS;
@@ -47,6 +48,11 @@ impl Case {
 
     fn on_r(drill: impl Into<Vec<u8>>) -> Case {
         Case::new(recording_r(), drill)
+    }
+
+    /// On R with a report at tick 0, so that `!a` comes before `a` and `a` rises.
+    fn on_low_start_r(drill: impl Into<Vec<u8>>) -> Case {
+        Case::new(low_start_r(), drill)
     }
 
     fn answer(self, answer_words: usize) -> Case {
@@ -191,6 +197,8 @@ pub fn all() -> Vec<Case> {
         events_hidden(),
         events_crowded(),
         events_refused(),
+        before_the_first_report(),
+        crowded_from_the_first_report(),
     ];
     groups.into_iter().flatten().collect()
 }
@@ -208,7 +216,7 @@ fn two() -> Vec<u8> {
     recording(
         120,
         2,
-        &[(10, 1), (34, 3), (35, 2), (61, 1), (80, 0), (90, 3)],
+        &[(0, 0), (10, 1), (34, 3), (35, 2), (61, 1), (80, 0), (90, 3)],
     )
 }
 
@@ -218,6 +226,7 @@ fn overlapping() -> Vec<u8> {
         79,
         2,
         &[
+            (0, 0),
             (25, 3),
             (33, 2),
             (38, 1),
@@ -246,7 +255,7 @@ fn stars() -> Vec<Case> {
     );
     vec![
         Case::on_r("(a{2,2})*"),
-        Case::on_r("(a|!a)*"),
+        Case::on_low_start_r("(a|!a)*"),
         Case::new(two(), "(a|!a)*"),
         // A round that removes one zone and adds one.
         Case::on_r("(a{0,1})*"),
@@ -254,7 +263,7 @@ fn stars() -> Vec<Case> {
         Case::on_r("(a{6,})*"),
         Case::on_r("_*"),
         Case::on_r("(a{0,1})**"),
-        Case::on_r("(a{1,2}.a{1,1})*|(!a{1,1})*"),
+        Case::on_low_start_r("(a{1,2}.a{1,1})*|(!a{1,1})*"),
         Case::new(two(), "((a.b){0,3})*"),
         Case::new(two(), "((a|b){1,2}.!a)*.b"),
         Case::new(two(), "(a.b)&(a.b{1,})|!a.a"),
@@ -272,8 +281,8 @@ fn ticks() -> Vec<Case> {
         Case::new(recording(100, 1, &[(25, 1)]), "a"),
         Case::new(recording(104, 1, &[(20, 1), (95, 0)]), "a"),
         Case::new(recording(105, 1, &[(20, 1), (95, 0)]), "a"),
-        Case::new(recording(104, 1, &[(96, 1)]), "a"),
-        Case::new(recording(100, 1, &[(48, 1), (52, 0)]), "!a"),
+        Case::new(recording(104, 1, &[(0, 0), (96, 1)]), "a"),
+        Case::new(recording(100, 1, &[(0, 0), (48, 1), (52, 0)]), "!a"),
         Case::new(recording(100, 1, &[(15, 1), (17, 0), (24, 1)]), "a"),
         Case::new(recording(100, 1, &[(0, 1), (50, 0)]), "a"),
         Case::new(recording(10, 1, &[]), "a"),
@@ -480,7 +489,7 @@ fn several_causes() -> Vec<Case> {
 
 /// The longest drive, low throughout.
 fn longest() -> Vec<u8> {
-    recording(10_000_000, 1, &[(9_999_999, 1)])
+    recording(10_000_000, 1, &[(0, 0), (9_999_999, 1)])
 }
 
 /// The largest of everything.
@@ -514,9 +523,9 @@ fn bounds_not_reached() -> Vec<Case> {
         Case::on_r("(a|_){<0,<1}"),
         // Whether a part reaches its bound shows in the whole.
         Case::on_r("a{<2,}.!a"),
-        Case::on_r("!a.a{<4,}.!a"),
-        Case::on_r("!a.a{<5,}.!a"),
-        Case::on_r("!a.a{5,<6}.!a"),
+        Case::on_low_start_r("!a.a{<4,}.!a"),
+        Case::on_low_start_r("!a.a{<5,}.!a"),
+        Case::on_low_start_r("!a.a{5,<6}.!a"),
         Case::on_r("a{<2,3}&a{2,<3}"),
         Case::on_r("a{<2,3}|a{2,<3}"),
         Case::on_r("a{2,3}|a{<2,<3}"),
@@ -582,7 +591,7 @@ fn halves() -> Vec<Case> {
     // Here d is 10, and a change from 95 ms on is on tick d.
     for ms in [94, 95, 96, 101] {
         cases.push(high(105, &[(ms, 1)]));
-        cases.push(low(105, &[(20, 1), (ms, 0)]));
+        cases.push(low(105, &[(0, 0), (20, 1), (ms, 0)]));
     }
     let shared = recording(105, 2, &[(5, 1), (15, 3), (25, 2), (45, 0)]);
     cases.extend([
@@ -593,7 +602,7 @@ fn halves() -> Vec<Case> {
         high(10, &[(5, 1)]),
         high(10, &[(6, 1)]),
         high(14, &[(5, 1)]),
-        low(15, &[]),
+        low(15, &[(0, 0)]),
         high(15, &[(5, 1)]),
         high(15, &[(14, 1)]),
         // The longest.
@@ -618,19 +627,23 @@ fn halves() -> Vec<Case> {
     cases
 }
 
-/// Rises and falls on R, with every operator, and on drives with more of them.
+/// Rises and falls on R with a low start, with every operator, and on drives with more of them.
 fn events() -> Vec<Case> {
     let on_r = "+a -a +a.a{0,3} a.-a (+a|-a)* +a{0,0} +a{1,} +a&_ +a{<0,} \
                 +a.-a +a.+a !a.+a.a a.+a +a.a.-a +a.a{2,3}.-a +a.a{<2,<3} (+a.a){3,3} \
                 +a&a +a|a +a|_ -a|+a \
                 +a* (+a|-a|a)* (+a|a)* (+a.a.-a)* (+a|-a|!a)*{1,2} (+a|-a|a|!a)* \
                 (+a.a{0,1}|a{1,1}.-a|!a)* (!a.+a|+a.a{<1,<2}|a{2,2})*";
-    let neighbours = || recording(100, 1, &[(10, 1), (20, 0), (30, 1), (90, 0)]);
-    let sixteen = || recording(100, 16, &[(30, 0x8001), (50, 0x0001), (60, 0x8000)]);
+    let neighbours = || recording(100, 1, &[(0, 0), (10, 1), (20, 0), (30, 1), (90, 0)]);
+    let sixteen = || {
+        let changes = [(0, 0), (30, 0x8001), (50, 0x0001), (60, 0x8000)];
+        recording(100, 16, &changes)
+    };
     // 254 and 255 bytes.
     let wrapped = format!("{}-a{}", "(".repeat(126), ")".repeat(126));
     let wrapped_star = format!("{wrapped}*");
-    let mut cases: Vec<Case> = on_r.split_whitespace().map(Case::on_r).collect();
+    let on_r = on_r.split_whitespace().map(Case::on_low_start_r);
+    let mut cases: Vec<Case> = on_r.collect();
     cases.extend([
         Case::new(neighbours(), "+a|-a"),
         Case::new(neighbours(), "+a.a.-a"),
@@ -643,11 +656,11 @@ fn events() -> Vec<Case> {
         Case::new(overlapping(), "((+a|b){0,1}.(a|-b))*"),
         Case::new(sixteen(), "+p.(p&a).-p"),
         Case::new(sixteen(), "-a.+p|-a&+p|+j"),
-        Case::on_r(format!("+a{}", "*".repeat(15))),
-        Case::on_r(format!("{}-a{}", "+a|(".repeat(15), ")".repeat(15))),
-        Case::on_r(wrapped),
-        Case::on_r(wrapped_star),
-        Case::on_r("+a").answer(6).work(WORK_WORDS),
+        Case::on_low_start_r(format!("+a{}", "*".repeat(15))),
+        Case::on_low_start_r(format!("{}-a{}", "+a|(".repeat(15), ")".repeat(15))),
+        Case::on_low_start_r(wrapped),
+        Case::on_low_start_r(wrapped_star),
+        Case::on_low_start_r("+a").answer(6).work(WORK_WORDS),
     ]);
     cases
 }
@@ -659,27 +672,27 @@ fn events_hidden() -> Vec<Case> {
     vec![
         // High from tick 0 on, by its time or by rounding.
         both(100, &[(0, 1), (50, 0)]),
-        both(100, &[(5, 1)]),
+        both(100, &[(0, 0), (5, 1)]),
         // At tick 1 and at d - 1, the first and the last there can be.
-        both(100, &[(6, 1), (94, 0)]),
-        both(20, &[(10, 1)]),
+        both(100, &[(0, 0), (6, 1), (94, 0)]),
+        both(20, &[(0, 0), (10, 1)]),
         // On tick d.
-        both(104, &[(20, 1), (96, 0)]),
-        both(100, &[(95, 1)]),
+        both(104, &[(0, 0), (20, 1), (96, 0)]),
+        both(100, &[(0, 0), (95, 1)]),
         // One tick has no tick beside it.
-        both(10, &[(0, 1)]),
+        both(10, &[(0, 0), (6, 1)]),
         both(100, &[]),
         // Of several changes on one tick the last stands.
-        both(100, &[(48, 1), (52, 0)]),
-        both(100, &[(20, 1), (48, 0), (52, 1)]),
-        both(100, &[(46, 1), (49, 0), (52, 1)]),
-        both(100, &[(20, 1), (46, 0), (49, 1), (52, 0)]),
+        both(100, &[(0, 0), (48, 1), (52, 0)]),
+        both(100, &[(0, 0), (20, 1), (48, 0), (52, 1)]),
+        both(100, &[(0, 0), (46, 1), (49, 0), (52, 1)]),
+        both(100, &[(0, 0), (20, 1), (46, 0), (49, 1), (52, 0)]),
         both(100, &[(0, 1), (4, 0), (10, 1)]),
         // Changes of the other channel, and one of nothing.
         both(100, &[(10, 2), (30, 3), (40, 1), (50, 1), (60, 0), (70, 2)]),
         // At either end of the longest drive.
-        both(10_000_000, &[(6, 1), (9_999_994, 0)]),
-        both(10_000_000, &[(20, 1), (9_999_995, 0)]),
+        both(10_000_000, &[(0, 0), (6, 1), (9_999_994, 0)]),
+        both(10_000_000, &[(0, 0), (20, 1), (9_999_995, 0)]),
     ]
 }
 
@@ -730,6 +743,24 @@ fn events_refused() -> Vec<Case> {
         Case::new(pulses(129), "+a").answer(0),
     ]);
     cases
+}
+
+/// The drills whose sheets are known by hand.
+fn before_the_first_report() -> Vec<Case> {
+    let named = first_reports::all().into_iter();
+    named
+        .map(|named| Case::new(named.recording, named.drill))
+        .collect()
+}
+
+/// Lists that have room for all low runs, or all rises, from the first report on, and not for one
+/// before it.
+fn crowded_from_the_first_report() -> Vec<Case> {
+    vec![
+        Case::new(late_pulses(128), "!a"),
+        Case::new(pulses(128), "!a"),
+        Case::new(late_pulses(129), "+a"),
+    ]
 }
 
 #[cfg(test)]

@@ -14,24 +14,41 @@ pub fn recording(duration: u32, channels: u8, changes: &[(u32, u16)]) -> Vec<u8>
     encode(head, &changes)
 }
 
-/// Document 01's recording R: 100 ms, one channel, high from 20 to 70.
+/// Document 01's recording R: 100 ms, one channel, high from 20 to 70. Nothing is reported before
+/// tick 2.
 pub fn recording_r() -> Vec<u8> {
     recording(100, 1, &[(20, 1), (70, 0)])
 }
 
-/// One channel with this many runs, each a tick long, a tick apart, the first from tick 1.
+/// R with its channel reported from tick 0 on: low up to tick 2, so that `a` rises there.
+pub fn low_start_r() -> Vec<u8> {
+    recording(100, 1, &[(0, 0), (20, 1), (70, 0)])
+}
+
+/// One channel with this many runs, each a tick long, a tick apart, the first from tick 1. Before it
+/// the channel is low.
 pub fn pulses(runs: u32) -> Vec<u8> {
-    let changes: Vec<(u32, u16)> = (0..2 * runs)
-        .map(|k| (10 * (k + 1), (k % 2 == 0).into()))
-        .collect();
+    let changes = [vec![(0, 0)], pulsing(runs)].concat();
     recording(10 * (2 * runs + 1), 1, &changes)
 }
 
+/// The same runs, with nothing reported before the first of them.
+pub fn late_pulses(runs: u32) -> Vec<u8> {
+    recording(10 * (2 * runs + 1), 1, &pulsing(runs))
+}
+
+/// High at tick 1, low at tick 2, and so on.
+fn pulsing(runs: u32) -> Vec<(u32, u16)> {
+    let changes = (0..2 * runs).map(|k| (10 * (k + 1), (k % 2 == 0).into()));
+    changes.collect()
+}
+
 /// A recording in which the k-th channel is high in the k-th list of runs, each given by the tick it
-/// starts at and the tick it ends at.
+/// starts at and the tick it ends at. All channels are reported from tick 0 on, low outside their runs.
 pub fn with_runs(ticks: u32, channels: &[&[(u32, u32)]]) -> Vec<u8> {
     let runs = channels.iter().flat_map(|runs| runs.iter());
     let mut edges: Vec<u32> = runs.flat_map(|&(start, end)| [start, end]).collect();
+    edges.push(0);
     edges.sort_unstable();
     edges.dedup();
     let is_high = |runs: &[(u32, u32)], tick| runs.iter().any(|&(s, e)| s <= tick && tick < e);

@@ -187,7 +187,7 @@ fn write(zones: &[Zone], answer: &mut [i32]) {
 #[cfg(test)]
 mod tests {
     use super::*;
-    use crate::examples::{pulses, recording, recording_r};
+    use crate::examples::{late_pulses, low_start_r, pulses, recording, recording_r};
     use crate::sheet;
 
     /// The returned values and the sheet's lines, with buffers that are long enough.
@@ -264,11 +264,11 @@ mod tests {
         ];
         for (drill, zone) in table {
             let expected = format!("zones 1 rounds 0\n{zone}\n");
-            assert_eq!(sheet(&recording_r(), drill), expected, "{drill}");
+            assert_eq!(sheet(&low_start_r(), drill), expected, "{drill}");
         }
         for drill in ["a{<5,}", "_{<0,}", "!a.a{<5,}.!a"] {
             assert_eq!(
-                sheet(&recording_r(), drill),
+                sheet(&low_start_r(), drill),
                 "zones 0 rounds 0\n",
                 "{drill}"
             );
@@ -318,9 +318,9 @@ mod tests {
         listed(&lines)
     }
 
-    /// Worked out by hand: on R, `a` rises at 2 and falls at 7.
+    /// Worked out by hand: on R with a low start, `a` rises at 2 and falls at 7.
     #[test]
-    fn events_of_r() {
+    fn events_of_r_with_a_low_start() {
         let (rise, fall) = (moment(2), moment(7));
         let run = "start [2,7) end (2,7] length (0,5]";
         let diagonal = "start [0,10] end [0,10] length [0,0]";
@@ -361,14 +361,38 @@ mod tests {
             ("+a.a{<2,<3}", &["start [2,2] end (4,5) length (2,3)"]),
         ];
         for (drill, zones) in table {
-            assert_eq!(sheet(&recording_r(), drill), listed(zones), "{drill}");
+            assert_eq!(sheet(&low_start_r(), drill), listed(zones), "{drill}");
         }
     }
 
-    /// By hand: the pieces of R touch only where an event meets its run, and what comes of these lies
-    /// in the run. So the first round changes nothing, and the diagonal takes the place of the events.
+    /// By hand: on R itself only the fall has a report on either side. Nothing that asks for a rise
+    /// fits, and all else is as with a low start.
     #[test]
-    fn stars_of_events_of_r() {
+    fn events_of_r() {
+        for drill in [
+            "+a",
+            "+a.a",
+            "!a.+a",
+            "+a&_",
+            "+a.a.-a",
+            "(+a.a){3,3}",
+            "+a{0,0}",
+        ] {
+            assert_eq!(sheet(&recording_r(), drill), moments(&[]), "{drill}");
+        }
+        for drill in ["-a", "+a|-a", "-a|+a", "-a{0,<1}", "-a.-a", "_.-a"] {
+            assert_eq!(sheet(&recording_r(), drill), moments(&[7]), "{drill}");
+        }
+        let up_to_it = "start [2,7) end [7,7] length (0,5]";
+        assert_eq!(sheet(&recording_r(), "a.-a"), listed(&[up_to_it]));
+        let from_it = "start [7,7] end (7,10] length (0,3]";
+        assert_eq!(sheet(&recording_r(), "-a.!a"), listed(&[from_it]));
+    }
+
+    /// By hand: the pieces touch only where an event meets its run, and what comes of these lies in the
+    /// run. So the first round changes nothing, and the diagonal takes the place of the events.
+    #[test]
+    fn stars_of_events_of_r_with_a_low_start() {
         let run = "start [2,7) end (2,7] length (0,5]\n";
         let before = "start [0,2) end (0,2] length (0,2]\n";
         let behind = "start [7,10) end (7,10] length (0,3]\n";
@@ -386,7 +410,7 @@ mod tests {
             let (zones, longer) = (longer.len() + 1, longer.concat());
             let diagonal = "start [0,10] end [0,10] length [0,0]\n";
             let expected = format!("zones {zones} rounds 1\n{longer}{diagonal}");
-            assert_eq!(sheet(&recording_r(), drill), expected, "{drill}");
+            assert_eq!(sheet(&low_start_r(), drill), expected, "{drill}");
         }
     }
 
@@ -400,7 +424,7 @@ mod tests {
             start [2,4] end [5,7] length [3,3]\n\
             start [2,3] end [6,7] length [4,4]\n\
             start [2,2] end [7,7] length [5,5]\n";
-        let star = sheet(&recording_r(), "(+a.a{1,1}|a{1,1})*{<0,}");
+        let star = sheet(&low_start_r(), "(+a.a{1,1}|a{1,1})*{<0,}");
         assert_eq!(star, expected);
         // With the rise before the star only what starts there is left.
         let expected = "zones 5 rounds 5\n\
@@ -409,12 +433,12 @@ mod tests {
             start [2,2] end [5,5] length [3,3]\n\
             start [2,2] end [6,6] length [4,4]\n\
             start [2,2] end [7,7] length [5,5]\n";
-        assert_eq!(sheet(&recording_r(), "+a.(a{1,1})*{<0,}"), expected);
+        assert_eq!(sheet(&low_start_r(), "+a.(a{1,1})*{<0,}"), expected);
     }
 
     #[test]
     fn events_on_neighbouring_ticks() {
-        let neighbours = recording(100, 1, &[(10, 1), (20, 0), (30, 1), (90, 0)]);
+        let neighbours = recording(100, 1, &[(0, 0), (10, 1), (20, 0), (30, 1), (90, 0)]);
         assert_eq!(sheet(&neighbours, "+a"), moments(&[1, 3]));
         assert_eq!(sheet(&neighbours, "-a"), moments(&[2, 9]));
         // Each list by itself is in rising time.
@@ -429,20 +453,24 @@ mod tests {
     }
 
     /// Nothing but the levels in the two ticks counts: not how often a channel changed on the way,
-    /// nor a change of another channel, nor what is before tick 0 or behind tick d.
+    /// nor a change of another channel, nor what is before the first report or behind tick d.
     #[test]
     fn what_is_no_event() {
         for (changes, rises, falls) in [
             (&[(0, 1), (50, 0)][..], &[][..], &[5][..]),
-            (&[(4, 1), (50, 0)], &[], &[5]),
-            (&[(48, 1), (52, 0)], &[], &[]),
-            (&[(46, 1), (49, 0), (52, 1)], &[5], &[]),
-            (&[(20, 1), (46, 0), (49, 1), (52, 0)], &[2], &[5]),
-            (&[(20, 1), (48, 0), (52, 1)], &[2], &[]),
-            (&[(96, 1)], &[], &[]),
-            (&[(20, 1), (96, 0)], &[2], &[]),
-            (&[(10, 1), (30, 3), (60, 2), (80, 0)], &[1], &[6]),
+            (&[(0, 0), (4, 1), (50, 0)], &[], &[5]),
+            (&[(0, 0), (48, 1), (52, 0)], &[], &[]),
+            (&[(0, 0), (46, 1), (49, 0), (52, 1)], &[5], &[]),
+            (&[(0, 0), (20, 1), (46, 0), (49, 1), (52, 0)], &[2], &[5]),
+            (&[(0, 0), (20, 1), (48, 0), (52, 1)], &[2], &[]),
+            (&[(0, 0), (96, 1)], &[], &[]),
+            (&[(0, 0), (20, 1), (96, 0)], &[2], &[]),
+            (&[(0, 0), (10, 1), (30, 3), (60, 2), (80, 0)], &[1], &[6]),
             (&[(10, 2), (30, 3), (40, 1), (50, 3)], &[3], &[]),
+            (&[(20, 1), (50, 0), (70, 1)], &[7], &[5]),
+            (&[(20, 0), (50, 1), (70, 0)], &[5], &[7]),
+            // The first of two reports on one tick is none by itself.
+            (&[(46, 0), (49, 1), (70, 0)], &[], &[7]),
         ] {
             let drive = recording(104, 2, changes);
             assert_eq!(sheet(&drive, "+a"), moments(rises), "{changes:?}");
@@ -462,6 +490,17 @@ mod tests {
         let diagonal = "zones 1 rounds 1\nstart [0,257] end [0,257] length [0,0]\n";
         assert_eq!(sheet(&pulses(128), "+a*"), diagonal);
         assert_eq!(number(&pulses(129), "+a&_"), 10);
+    }
+
+    /// A run or a rise at the start that is not reported takes no room.
+    #[test]
+    fn what_is_not_reported_takes_no_room() {
+        assert!(sheet(&pulses(127), "!a").starts_with("zones 128 rounds 0\n"));
+        assert_eq!(number(&pulses(128), "!a"), 10);
+        assert!(sheet(&late_pulses(128), "!a").starts_with("zones 128 rounds 0\n"));
+        assert_eq!(number(&late_pulses(129), "!a"), 10);
+        assert!(sheet(&late_pulses(129), "+a").starts_with("zones 128 rounds 0\n"));
+        assert_eq!(number(&late_pulses(130), "+a"), 10);
     }
 
     #[test]
@@ -525,7 +564,7 @@ mod tests {
             let expected = run_and_end(run, d);
             assert_eq!(sheet(&rise, "a|_"), expected, "{ms} of {duration}");
         }
-        let fall = recording(105, 1, &[(20, 1), (95, 0)]);
+        let fall = recording(105, 1, &[(0, 0), (20, 1), (95, 0)]);
         assert_eq!(sheet(&fall, "a|_"), run_and_end(Some((2, 10)), 10));
         // Nothing is left of `!a` behind the fall.
         let before = "zones 1 rounds 0\nstart [0,2) end (0,2] length (0,2]\n";
@@ -596,11 +635,11 @@ mod tests {
     fn operands_are_composed_in_their_order() {
         let forth = "start [2,7) end (7,10] length (0,8]";
         let back = "start [0,2) end (2,7] length (0,7]";
-        assert!(sheet(&recording_r(), "a.!a").contains(forth));
-        assert!(sheet(&recording_r(), "!a.a").contains(back));
+        assert!(sheet(&low_start_r(), "a.!a").contains(forth));
+        assert!(sheet(&low_start_r(), "!a.a").contains(back));
         // Their meets are no mirror images either.
-        assert!(sheet(&recording_r(), "a.a{1,1}").contains("start [2,6) end (3,7] length (1,5]"));
-        assert!(sheet(&recording_r(), "!a.a{1,1}").contains("start [0,2) end [3,3] length (1,3]"));
+        assert!(sheet(&low_start_r(), "a.a{1,1}").contains("start [2,6) end (3,7] length (1,5]"));
+        assert!(sheet(&low_start_r(), "!a.a{1,1}").contains("start [0,2) end [3,3] length (1,3]"));
     }
 
     #[test]

@@ -251,15 +251,20 @@ fn large(rng: &mut Rng) -> Input {
     }
 }
 
-/// A recording in which each change switches one channel.
+/// A recording in which each change but the first switches one channel. The first reports all of them
+/// low, or each at any level.
 fn switching(rng: &mut Rng, head: Head, changes: usize) -> Vec<u8> {
-    let times = random::rising_times(rng, head.duration, changes);
-    let mut levels = 0;
-    let mut switched = |time| {
-        levels ^= 1 << rng.below(head.channels.into());
-        Change { time, levels }
+    let times = random::change_times(rng, head.duration, changes);
+    let mut levels = if rng.once_in(2) {
+        0
+    } else {
+        random::levels(rng, head.channels)
     };
-    let changes: Vec<Change> = times.into_iter().map(&mut switched).collect();
+    let mut changes = Vec::new();
+    for time in times {
+        changes.push(Change { time, levels });
+        levels ^= 1 << rng.below(head.channels.into());
+    }
     encode(head, &changes)
 }
 
@@ -470,10 +475,15 @@ fn once_or_twice_a_run(rng: &mut Rng) -> (&'static str, u32) {
     }
 }
 
-/// One channel with this many runs.
+/// One channel with this many runs. In half of these drives it is reported low from tick 0 on, so that
+/// the first run has a rise; in the others the first run is the first report.
 fn many_runs(rng: &mut Rng, runs: u32) -> Vec<u8> {
     let mut time = rng.between(0, 30);
     let mut changes = Vec::new();
+    if rng.once_in(2) {
+        changes.push(Change { time: 0, levels: 0 });
+        time += 6;
+    }
     for k in 0..2 * runs {
         let levels = (k % 2 == 0).into();
         changes.push(Change { time, levels });
@@ -557,7 +567,7 @@ mod tests {
     use super::*;
     use crate::finder::{find, WORK_WORDS};
     use crate::lesson::drills;
-    use crate::recording::{times, Recording};
+    use crate::recording::{times, FirstReport, Recording};
     use crate::refusal::Refusal;
 
     /// Halves are among durations and among changes, the lower tick even (5) or odd (15).
@@ -578,6 +588,56 @@ mod tests {
                 );
             }
         }
+    }
+
+    /// Drives of all kinds are reported from tick 0 on, low or high, and later, and not at all.
+    #[test]
+    fn drives_are_reported_early_and_late() {
+        let mut rng = Rng::new(1, 9);
+        for kind in [small, pieces, large, deep, outside] {
+            let recordings: Vec<Vec<u8>> = (0..400).map(|_| kind(&mut rng).recording).collect();
+            let often = |least: usize, what: &str, meets: &dyn Fn(&Recording) -> bool| {
+                let sound = |bytes: &&Vec<u8>| meets(&Recording::read(bytes).expect("sound"));
+                let count = recordings.iter().filter(sound).count();
+                assert!(count > least, "{what}: {count}");
+            };
+            for (first, least) in [
+                (FirstReport::AtOnce, 130),
+                (FirstReport::Late, 40),
+                (FirstReport::OnTheLastTick, 10),
+                (FirstReport::OnTickD, 5),
+                (FirstReport::Never, 10),
+            ] {
+                let what = format!("{first:?}");
+                often(least, &what, &|read| read.first_report() == first);
+            }
+            let first_run = |read: &Recording, high| {
+                let found = read.each_run(0, high, Err);
+                found.err().map(|run| run.start)
+            };
+            often(60, "low at tick 0", &|read| {
+                first_run(read, false) == Some(0)
+            });
+            often(40, "high at tick 0", &|read| {
+                first_run(read, true) == Some(0)
+            });
+            often(60, "a rise", &|read| read.has_event(0, true));
+            often(60, "a fall", &|read| read.has_event(0, false));
+        }
+    }
+
+    /// About half of the drives with many runs have a rise for the first of them.
+    #[test]
+    fn many_runs_begin_with_a_rise_or_with_the_first_report() {
+        let mut rng = Rng::new(1, 10);
+        let mut low_first = 0;
+        for _ in 0..400 {
+            let bytes = many_runs(&mut rng, 3);
+            let read = Recording::read(&bytes).expect("sound");
+            let found = read.each_run(0, false, Err);
+            low_first += u32::from(found.err().is_some_and(|run| run.start == 0));
+        }
+        assert!((100..300).contains(&low_first), "{low_first}");
     }
 
     /// Texts beside an event are read and refused often enough.
@@ -682,8 +742,8 @@ mod tests {
                 Err(_) => (),
             }
         }
-        assert!(right > 200, "{right}");
-        assert!(of_no_form > 200, "{of_no_form}");
-        assert!(wrong > 200, "{wrong}");
+        assert!(right > 150, "{right}");
+        assert!(of_no_form > 150, "{of_no_form}");
+        assert!(wrong > 150, "{wrong}");
     }
 }

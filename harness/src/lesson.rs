@@ -113,7 +113,7 @@ fn printed(drills: &[Marked]) -> String {
 #[cfg(test)]
 mod tests {
     use super::*;
-    use crate::examples::{recording, recording_r};
+    use crate::examples::{low_start_r, recording, recording_r};
     use crate::finder::{find, WORK_WORDS};
     use crate::zone::WORDS;
     use crate::zones::MAX_ZONES;
@@ -176,7 +176,7 @@ mod tests {
         let deep = format!("a{}", "*".repeat(16));
         let long = "a".repeat(256);
         let text = format!("a)\na{{5,5}}\nb\na{{3,2}}\n{deep}\n{long}\n+a\n \n");
-        assert_eq!(on_r(&text), expected);
+        assert_eq!(on(&low_start_r(), &text).text, expected);
     }
 
     #[test]

@@ -18,6 +18,7 @@ pub mod compare;
 pub mod drill;
 pub mod examples;
 pub mod finder;
+pub mod first_reports;
 pub mod inputs;
 pub mod lent;
 pub mod lesson;

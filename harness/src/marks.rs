@@ -79,7 +79,13 @@ pub fn run(program: &str) -> Result<String, String> {
 }
 
 fn all() -> Vec<Case> {
-    let groups = [recordings(), drills(), newlines(), missing()];
+    let groups = [
+        recordings(),
+        first_reports(),
+        drills(),
+        newlines(),
+        missing(),
+    ];
     groups.into_iter().flatten().collect()
 }
 
@@ -95,6 +101,17 @@ fn recordings() -> Vec<Case> {
         Case::new("32,776 bytes", &long, b"a", 1),
         Case::new("a newline as the last byte", &with_newline, b"j&l", 0),
         Case::new("a newline too many", &newline_more, b"a", 1),
+    ]
+}
+
+/// Drives that are reported late, or never.
+fn first_reports() -> Vec<Case> {
+    let on_tick_d = recording(104, 1, &[(96, 0)]);
+    vec![
+        Case::new("nothing before tick 2", &recording_r(), b"!a", 0),
+        Case::new("all from tick 2 on", &recording_r(), b"(a|!a)*", 0),
+        Case::new("no change", &recording(100, 1, &[]), b"!a|_", 0),
+        Case::new("a change on tick d alone", &on_tick_d, b"!a|_", 0),
     ]
 }
 

@@ -4,7 +4,8 @@
 
 use crate::compare::Sheet;
 use crate::examples::{
-    bracketed, one_change_too_many, pulses, recording, recording_r, spending_drive, with_runs,
+    bracketed, late_pulses, low_start_r, one_change_too_many, pulses, recording, recording_r,
+    spending_drive, with_runs,
 };
 use crate::finder::WORK_WORDS;
 use crate::lent::Lent;
@@ -184,6 +185,7 @@ pub fn run(program: &str) -> Result<String, String> {
 fn all() -> Vec<NamedSheet> {
     let groups = [
         ordinary(),
+        first_reports(),
         purses(),
         operands(),
         nested(),
@@ -237,7 +239,77 @@ fn ordinary() -> Vec<NamedSheet> {
         on_r("one drill", "(a{2,2})* 0 2"),
         on_r("one drill eight times", &"(a{2,2})* 0 2\n".repeat(8)),
         on_r("the marked set", marked_set),
-        on_r("stars, bounds that are not reached, events", stars),
+        NamedSheet::table(
+            "stars, bounds that are not reached, events",
+            &low_start_r(),
+            stars,
+        ),
+    ]
+}
+
+/// Nothing is high or low before the first report. On R the first round of `(a|!a)*` adds the stretches
+/// over 7, and the second nothing; with a low start, the second adds those over 2 and 7. Where nothing
+/// is reported, a star has the one round of an empty list.
+fn first_reports() -> Vec<NamedSheet> {
+    let from_tick_2 = "
+        !a           0 0
+        (a|!a)*      0 2
+        !a.a         0 0
+        +a           0 0
+        -a           0 0
+        (+a|-a)*     0 1
+        (!a{0,1})*   0 3
+        (a|!a)*{9,}  0 2
+    ";
+    let from_tick_0 = "
+        !a           0 0
+        (a|!a)*      0 3
+        !a.a         0 0
+        +a           0 0
+        (!a{0,1})*   0 3
+        (a|!a)*{9,}  0 3
+    ";
+    let nothing = "
+        a           0 0
+        !a          0 0
+        +a|-a       0 0
+        !a.!a&_     0 0
+        _           0 0
+        (!a{0,1})*  0 1
+        (a|!a)**    0 2
+        a)          5 0
+    ";
+    // `a` is low from tick 50 on, for 100,000 ticks.
+    let low_for_a_purse = recording(1_000_500, 1, &[(500, 0)]);
+    let just_enough = "
+        (!a{0,1})*  0 100000
+        !a          0      0
+        _*         13      0
+    ";
+    let full = "
+        !a   0 0
+        -a   0 0
+        !a* 10 1
+    ";
+    vec![
+        on_r("nothing reported before tick 2", from_tick_2),
+        NamedSheet::table("low from tick 0 on", &low_start_r(), from_tick_0),
+        NamedSheet::table("no change", &recording(100, 1, &[]), nothing),
+        NamedSheet::table(
+            "a change on tick d alone",
+            &recording(104, 1, &[(96, 0)]),
+            nothing,
+        ),
+        NamedSheet::table(
+            "just 100,000 rounds from the first report on",
+            &low_for_a_purse,
+            just_enough,
+        ),
+        NamedSheet::table(
+            "128 low runs from the first report on",
+            &late_pulses(128),
+            full,
+        ),
     ]
 }
 

@@ -163,7 +163,7 @@ const UNLIMITED: Range = Range {
 mod tests {
     use super::*;
     use crate::by_times::TriedList;
-    use crate::examples::{pulses, recording, recording_r, with_runs};
+    use crate::examples::{low_start_r, pulses, recording, recording_r, with_runs};
     use crate::finder::{self, Found, WORK_WORDS};
     use crate::random::{self, Rng, Taste};
     use crate::recording::Head;
@@ -187,10 +187,10 @@ mod tests {
         found.told
     }
 
-    /// By hand: on R, `a` ends in (2,7] and starts in [2,7), `!a` ends in (0,2] and (7,10] and starts
-    /// in [0,2) and [7,10), `a` rises at 2 and falls at 7.
+    /// By hand: on R with a low start, `a` ends in (2,7] and starts in [2,7), `!a` ends in (0,2] and
+    /// (7,10] and starts in [0,2) and [7,10), `a` rises at 2 and falls at 7.
     #[test]
-    fn pairs_of_r() {
+    fn pairs_of_r_with_a_low_start() {
         let table: [(&str, &[usize]); 19] = [
             ("a.a", &[1]),
             ("!a.!a", &[2]),
@@ -218,6 +218,24 @@ mod tests {
             ("a&a&!a.a", &[1]),
         ];
         for (drill, expected) in table {
+            assert_eq!(pairs(&low_start_r(), drill), expected, "{drill}");
+        }
+    }
+
+    /// By hand: on R itself `!a` is from 7 on, and `a` does not rise.
+    #[test]
+    fn pairs_of_r() {
+        let table: [(&str, &[usize]); 7] = [
+            ("!a.!a", &[1]),
+            ("a.!a", &[1]),
+            ("!a.a", &[0]),
+            ("+a.a", &[0]),
+            ("-a.!a", &[1]),
+            ("!a._", &[1]),
+            // Both touch themselves, `a` also `!a`; then the two in a row touch `!a`.
+            ("(a|!a)*", &[3, 4]),
+        ];
+        for (drill, expected) in table {
             assert_eq!(pairs(&recording_r(), drill), expected, "{drill}");
         }
     }
@@ -234,7 +252,7 @@ mod tests {
             ("+a.a{0,<4}", "a{0,<2}.-a", 1),
         ] {
             let drill = format!("({left}).({right})");
-            assert_eq!(pairs(&recording_r(), &drill), [1, 1, common], "{drill}");
+            assert_eq!(pairs(&low_start_r(), &drill), [1, 1, common], "{drill}");
         }
     }
 
@@ -275,7 +293,7 @@ mod tests {
         assert_eq!(pairs(&recording_r(), "_*"), [1]);
         // The composition in the star comes first. Then each of the three runs touches itself and the
         // next one; what comes of two neighbours touches what its second run does; and so on.
-        assert_eq!(pairs(&recording_r(), "(a.a|!a)*"), [1, 5, 8, 9]);
+        assert_eq!(pairs(&low_start_r(), "(a.a|!a)*"), [1, 5, 8, 9]);
     }
 
     /// By hand: with `a` high for 130 ticks, round k has the pieces of 1 to k ticks before one more,

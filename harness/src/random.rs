@@ -1,7 +1,7 @@
 //! Random numbers, recordings and drills, all from a seed.
 
 use crate::drill::{Band, Bound, Drill};
-use crate::recording::{encode, Change, Head};
+use crate::recording::{encode, tick, Change, Head};
 
 /// The splitmix64 generator.
 #[derive(Clone, Debug)]
@@ -63,8 +63,24 @@ pub fn milliseconds(rng: &mut Rng, low: u32, high: u32) -> u32 {
     }
 }
 
-/// The times of at most this many changes, rising and below the duration.
-pub fn rising_times(rng: &mut Rng, duration: u32, changes: usize) -> Vec<u32> {
+/// The times of at most this many changes, or of one, rising and below the duration. In more than half
+/// of all drives the first is at tick 0, so that runs from the start and events come up as often as
+/// late reports. Else it is anywhere, now and then on the last tick or on tick d, or there is none.
+pub fn change_times(rng: &mut Rng, duration: u32, changes: usize) -> Vec<u32> {
+    let mut times = rising_times(rng, duration, changes);
+    let ticks = tick(duration);
+    match rng.below(32) {
+        0..18 => begin_at_once(rng, &mut times),
+        18 => begin_at(ticks - 1, duration, &mut times),
+        19 => begin_at(ticks, duration, &mut times),
+        20 => times.clear(),
+        21..26 => begin_at(rng.between(0, ticks - 1), duration, &mut times),
+        _ => (),
+    }
+    times
+}
+
+fn rising_times(rng: &mut Rng, duration: u32, changes: usize) -> Vec<u32> {
     let mut times: Vec<u32> = (0..changes)
         .map(|_| milliseconds(rng, 0, duration - 1))
         .collect();
@@ -73,18 +89,40 @@ pub fn rising_times(rng: &mut Rng, duration: u32, changes: usize) -> Vec<u32> {
     times
 }
 
-/// A sound recording with at most this many changes, at any milliseconds.
+/// The first time, if there is any, becomes one of those that are tick 0.
+fn begin_at_once(rng: &mut Rng, times: &mut [u32]) {
+    if let Some(first) = times.first_mut() {
+        *first = milliseconds(rng, 0, 5).min(*first);
+    }
+}
+
+/// The times before this tick are left out. Where no other is left, there is one on the tick, if the
+/// drive has any.
+fn begin_at(first: u32, duration: u32, times: &mut Vec<u32>) {
+    times.retain(|&time| tick(time) >= first);
+    let there = (10 * first).min(duration - 1);
+    if times.is_empty() && tick(there) == first {
+        times.push(there);
+    }
+}
+
+/// A sound recording with at most this many changes, or with one, at any milliseconds.
 pub fn recording(rng: &mut Rng, head: Head, changes: usize) -> Vec<u8> {
-    let times = rising_times(rng, head.duration, changes);
-    let known = ((1u32 << head.channels) - 1) as u16;
+    let times = change_times(rng, head.duration, changes);
     let changes: Vec<Change> = times
         .into_iter()
         .map(|time| Change {
             time,
-            levels: rng.number() as u16 & known,
+            levels: levels(rng, head.channels),
         })
         .collect();
     encode(head, &changes)
+}
+
+/// Each of so many channels high or low.
+pub fn levels(rng: &mut Rng, channels: u8) -> u16 {
+    let known = ((1u32 << channels) - 1) as u16;
+    rng.number() as u16 & known
 }
 
 /// What a random drill may be made of.
@@ -210,7 +248,7 @@ pub fn text(rng: &mut Rng, drill: &Drill) -> Vec<u8> {
 #[cfg(test)]
 mod tests {
     use super::*;
-    use crate::recording::Recording;
+    use crate::recording::{FirstReport, Recording};
 
     #[test]
     fn random_recordings_are_sound() {
@@ -222,6 +260,34 @@ mod tests {
             };
             let bytes = recording(&mut rng, head, 10);
             assert!(Recording::read(&bytes).is_ok());
+        }
+    }
+
+    /// Early and late, also with one change at most, which is all there is to report.
+    #[test]
+    fn first_reports_are_of_every_kind() {
+        let mut rng = Rng::new(1, 9);
+        for changes in [1, 6, 14] {
+            let mut first_reports = Vec::new();
+            for _ in 0..1_000 {
+                let head = Head {
+                    duration: milliseconds(&mut rng, 20, 125),
+                    channels: 2,
+                };
+                let bytes = recording(&mut rng, head, changes);
+                let read = Recording::read(&bytes).expect("a sound recording");
+                first_reports.push(read.first_report());
+            }
+            for (kind, least) in [
+                (FirstReport::AtOnce, 500),
+                (FirstReport::Late, 120),
+                (FirstReport::OnTheLastTick, 20),
+                (FirstReport::OnTickD, 10),
+                (FirstReport::Never, 15),
+            ] {
+                let count = first_reports.iter().filter(|&&one| one == kind).count();
+                assert!(count > least, "{changes} changes, {kind:?}: {count}");
+            }
         }
     }
 

@@ -173,6 +173,22 @@ pub struct Run {
     pub end: u32,
 }
 
+/// When the channels of a drive are reported for the first time, all of them at once: at the tick of
+/// the first change.
+#[derive(Clone, Copy, Debug, PartialEq, Eq)]
+pub enum FirstReport {
+    /// At tick 0.
+    AtOnce,
+    /// After tick 0 and before the last tick.
+    Late,
+    /// On tick d - 1, where that is not tick 0.
+    OnTheLastTick,
+    /// On tick d, so that no tick is reported.
+    OnTickD,
+    /// Without a change nothing is reported.
+    Never,
+}
+
 /// A recording with nothing wrong in it.
 #[derive(Clone, Copy, Debug)]
 pub struct Recording<'a> {
@@ -225,8 +241,8 @@ impl<'a> Recording<'a> {
     }
 
     /// The levels in each tick from 0 to d - 1, straight from the rule: those of the last change
-    /// at or before the tick, all low where there is none.
-    pub fn levels(&self) -> Vec<u16> {
+    /// at or before the tick, none where nothing is reported yet.
+    pub fn levels(&self) -> Vec<Option<u16>> {
         let changes: Vec<Change> = self
             .changes
             .chunks_exact(RECORD)
@@ -234,8 +250,20 @@ impl<'a> Recording<'a> {
             .collect();
         let at = |k: u32| changes.iter().rev().find(|change| tick(change.time) <= k);
         (0..self.ticks)
-            .map(|k| at(k).map_or(0, |change| change.levels))
+            .map(|k| at(k).map(|change| change.levels))
             .collect()
+    }
+
+    /// When the channels are reported for the first time.
+    pub fn first_report(&self) -> FirstReport {
+        let first = times(self.changes).next().map(tick);
+        match first {
+            None => FirstReport::Never,
+            Some(0) => FirstReport::AtOnce,
+            Some(at) if at == self.ticks => FirstReport::OnTickD,
+            Some(at) if at + 1 == self.ticks => FirstReport::OnTheLastTick,
+            Some(_) => FirstReport::Late,
+        }
     }
 
     /// Hands each maximal run of a channel at the given level to `found`, in rising time.
@@ -245,14 +273,15 @@ impl<'a> Recording<'a> {
         high: bool,
         mut found: impl FnMut(Run) -> Result<(), E>,
     ) -> Result<(), E> {
-        let mut level = false;
+        // Before the first report a channel is neither high nor low, so no run begins there.
+        let mut level = None;
         let mut since = 0;
         for (at, levels) in self.standing() {
-            let next = levels >> channel & 1 == 1;
+            let next = Some(levels >> channel & 1 == 1);
             if next == level {
                 continue;
             }
-            if level == high && since < at {
+            if level == Some(high) {
                 found(Run {
                     start: since,
                     end: at,
@@ -261,7 +290,7 @@ impl<'a> Recording<'a> {
             (level, since) = (next, at);
         }
         // A change on tick d leaves nothing behind it.
-        if level == high && since < self.ticks {
+        if level == Some(high) && since < self.ticks {
             found(Run {
                 start: since,
                 end: self.ticks,
@@ -271,21 +300,22 @@ impl<'a> Recording<'a> {
     }
 
     /// Hands each tick at which a channel rises, or falls, to `found`, in rising time: the ticks of
-    /// the changes that stand and change the channel.
+    /// the changes that stand and change the channel. The first report changes nothing.
     pub fn each_event<E>(
         &self,
         channel: u8,
         rise: bool,
         mut found: impl FnMut(u32) -> Result<(), E>,
     ) -> Result<(), E> {
-        let mut level = false;
+        let mut level = None;
         for (at, levels) in self.standing() {
             let next = levels >> channel & 1 == 1;
-            // An event has a tick before it and a tick behind it, so none is at 0 or at d.
-            if next != level && next == rise && 0 < at && at < self.ticks {
+            // A report before it says that the tick before it is there. None is at d, which has no
+            // tick behind it.
+            if level == Some(!rise) && next == rise && at < self.ticks {
                 found(at)?;
             }
-            level = next;
+            level = Some(next);
         }
         Ok(())
     }
@@ -358,7 +388,7 @@ fn read_change(head: Head, before: Option<u32>, record: &[u8]) -> Result<Change,
 #[cfg(test)]
 mod tests {
     use super::*;
-    use crate::examples::{recording, recording_r};
+    use crate::examples::{low_start_r, recording, recording_r};
 
     fn refused(bytes: &[u8]) -> Option<u32> {
         Recording::read(bytes)
@@ -377,14 +407,101 @@ mod tests {
         runs
     }
 
+    fn levels(bytes: &[u8]) -> Vec<Option<u16>> {
+        Recording::read(bytes).expect("a sound recording").levels()
+    }
+
     #[test]
-    fn r_has_one_run() {
+    fn r_has_one_run_of_each_level() {
         let bytes = recording_r();
         let read = Recording::read(&bytes).unwrap();
         assert_eq!((read.ticks(), read.channels()), (10, 1));
-        assert_eq!(read.levels(), [0, 0, 1, 1, 1, 1, 1, 0, 0, 0]);
+        let reported = [1, 1, 1, 1, 1, 0, 0, 0].map(Some);
+        assert_eq!(read.levels(), [&[None; 2][..], &reported].concat());
         assert_eq!(runs(&bytes, 0, true), [(2, 7)]);
-        assert_eq!(runs(&bytes, 0, false), [(0, 2), (7, 10)]);
+        assert_eq!(runs(&bytes, 0, false), [(7, 10)]);
+        assert_eq!(runs(&low_start_r(), 0, true), [(2, 7)]);
+        assert_eq!(runs(&low_start_r(), 0, false), [(0, 2), (7, 10)]);
+    }
+
+    /// A drive of 10 ticks whose only change is at so many milliseconds, high or low.
+    fn one_report(ms: u32, level: u16) -> Vec<u8> {
+        recording(104, 1, &[(ms, level)])
+    }
+
+    /// Levels hold from the tick of the first change on, and before it there are none.
+    #[test]
+    fn nothing_is_reported_before_the_tick_of_the_first_change() {
+        for (ms, first) in [(0, 0), (4, 0), (5, 0), (6, 1), (14, 1), (15, 2), (94, 9)] {
+            for (level, high) in [(1, true), (0, false)] {
+                let bytes = one_report(ms, level);
+                assert_eq!(runs(&bytes, 0, high), [(first, 10)], "{ms}");
+                assert_eq!(runs(&bytes, 0, !high), [], "{ms}");
+                let (unreported, reported) = (first as usize, 10 - first as usize);
+                let expected = [vec![None; unreported], vec![Some(level); reported]].concat();
+                assert_eq!(levels(&bytes), expected, "{ms}");
+                assert_eq!(events(&bytes, 0), (vec![], vec![]), "{ms}");
+            }
+        }
+    }
+
+    #[test]
+    fn without_a_change_before_tick_d_nothing_is_reported() {
+        let on_tick_d = recording(105, 1, &[(95, 0), (100, 1), (104, 0)]);
+        for bytes in [
+            recording(100, 1, &[]),
+            one_report(96, 1),
+            one_report(96, 0),
+            on_tick_d,
+        ] {
+            for high in [true, false] {
+                assert_eq!(runs(&bytes, 0, high), []);
+            }
+            assert_eq!(events(&bytes, 0), (vec![], vec![]));
+            assert_eq!(levels(&bytes), [None; 10]);
+        }
+    }
+
+    #[test]
+    fn of_several_changes_on_the_first_tick_the_last_is_reported() {
+        let low = recording(100, 1, &[(46, 0), (49, 1), (52, 0), (80, 1)]);
+        assert_eq!(runs(&low, 0, false), [(5, 8)]);
+        assert_eq!(runs(&low, 0, true), [(8, 10)]);
+        assert_eq!(events(&low, 0), (vec![8], vec![]));
+        let high = recording(100, 1, &[(15, 0), (20, 0), (25, 1)]);
+        assert_eq!(runs(&high, 0, true), [(2, 10)]);
+        assert_eq!(runs(&high, 0, false), []);
+        assert_eq!(events(&high, 0), (vec![], vec![]));
+    }
+
+    /// Each change has the levels of all channels, also of those that it leaves as they are.
+    #[test]
+    fn the_first_change_reports_all_channels() {
+        let bytes = recording(100, 3, &[(30, 0b001), (60, 0b011), (80, 0b000)]);
+        assert_eq!(runs(&bytes, 0, true), [(3, 8)]);
+        assert_eq!(runs(&bytes, 0, false), [(8, 10)]);
+        assert_eq!(runs(&bytes, 1, true), [(6, 8)]);
+        assert_eq!(runs(&bytes, 1, false), [(3, 6), (8, 10)]);
+        assert_eq!(runs(&bytes, 2, false), [(3, 10)]);
+        assert_eq!(events(&bytes, 0), (vec![], vec![8]));
+        assert_eq!(events(&bytes, 1), (vec![6], vec![8]));
+        assert_eq!(events(&bytes, 2), (vec![], vec![]));
+    }
+
+    #[test]
+    fn first_reports_are_told_apart() {
+        let first = |bytes: &[u8]| Recording::read(bytes).unwrap().first_report();
+        let at = |ms: u32| first(&one_report(ms, 1));
+        assert_eq!([0, 5].map(at), [FirstReport::AtOnce; 2]);
+        assert_eq!([6, 85].map(at), [FirstReport::Late; 2]);
+        assert_eq!([86, 94].map(at), [FirstReport::OnTheLastTick; 2]);
+        assert_eq!([95, 103].map(at), [FirstReport::OnTickD; 2]);
+        assert_eq!(first(&recording(104, 1, &[])), FirstReport::Never);
+        assert_eq!(first(&recording_r()), FirstReport::Late);
+        assert_eq!(first(&low_start_r()), FirstReport::AtOnce);
+        // The only tick there is.
+        assert_eq!(first(&recording(10, 1, &[(5, 1)])), FirstReport::AtOnce);
+        assert_eq!(first(&recording(10, 1, &[(6, 1)])), FirstReport::OnTickD);
     }
 
     #[test]
@@ -413,11 +530,10 @@ mod tests {
     #[test]
     fn the_last_change_on_a_tick_stands_and_splits_no_run() {
         // High at 48 and low again at 52: both are tick 5, so nothing happened.
-        let blip = recording(100, 1, &[(48, 1), (52, 0)]);
+        let blip = recording(100, 1, &[(0, 0), (48, 1), (52, 0)]);
         assert_eq!(runs(&blip, 0, false), [(0, 10)]);
         assert_eq!(runs(&blip, 0, true), []);
-        let read = Recording::read(&blip).unwrap();
-        assert_eq!(read.levels(), [0; 10]);
+        assert_eq!(levels(&blip), [Some(0); 10]);
     }
 
     /// An even tick has the halves on both its sides, an odd one neither.
@@ -442,8 +558,9 @@ mod tests {
     fn a_change_on_tick_d_has_no_effect() {
         let late = recording(104, 1, &[(20, 1), (96, 0)]);
         assert_eq!(runs(&late, 0, true), [(2, 10)]);
-        let rise = recording(104, 1, &[(97, 1)]);
+        let rise = recording(104, 1, &[(0, 0), (97, 1)]);
         assert_eq!(runs(&rise, 0, true), []);
+        assert_eq!(runs(&rise, 0, false), [(0, 10)]);
     }
 
     /// Of a drive of 105 ms, d is 10, and every change from 95 ms on is on tick d.
@@ -464,7 +581,7 @@ mod tests {
 
     #[test]
     fn other_channels_split_no_run() {
-        let two = recording(100, 2, &[(10, 0b01), (30, 0b11), (60, 0b10)]);
+        let two = recording(100, 2, &[(0, 0), (10, 0b01), (30, 0b11), (60, 0b10)]);
         assert_eq!(runs(&two, 0, true), [(1, 6)]);
         assert_eq!(runs(&two, 1, true), [(3, 10)]);
         assert_eq!(runs(&two, 1, false), [(0, 3)]);
@@ -488,42 +605,59 @@ mod tests {
 
     #[test]
     fn an_event_lies_where_a_run_ends_and_another_starts() {
-        assert_eq!(events(&recording_r(), 0), (vec![2], vec![7]));
-        let neighbours = recording(100, 1, &[(20, 1), (30, 0), (40, 1), (50, 0)]);
+        assert_eq!(events(&low_start_r(), 0), (vec![2], vec![7]));
+        let neighbours = recording(100, 1, &[(0, 0), (20, 1), (30, 0), (40, 1), (50, 0)]);
         assert_eq!(events(&neighbours, 0), (vec![2, 4], vec![3, 5]));
-        let two = recording(100, 2, &[(10, 0b01), (30, 0b11), (60, 0b10)]);
+        let two = recording(100, 2, &[(0, 0), (10, 0b01), (30, 0b11), (60, 0b10)]);
         assert_eq!(events(&two, 0), (vec![1], vec![6]));
         assert_eq!(events(&two, 1), (vec![3], vec![]));
+    }
+
+    #[test]
+    fn the_first_report_is_no_event() {
+        assert_eq!(events(&recording_r(), 0), (vec![], vec![7]));
+        let low_first = recording(100, 1, &[(20, 0), (30, 1), (40, 0)]);
+        assert_eq!(events(&low_first, 0), (vec![3], vec![4]));
+        // The second report may be the first that changes anything.
+        let same_twice = recording(100, 1, &[(20, 1), (30, 1), (40, 0)]);
+        assert_eq!(events(&same_twice, 0), (vec![], vec![4]));
     }
 
     #[test]
     fn no_event_lies_at_the_start_or_at_the_end() {
         let from_the_start = recording(100, 1, &[(0, 1), (50, 0)]);
         assert_eq!(events(&from_the_start, 0), (vec![], vec![5]));
-        // Rounded to tick 0, and to tick 1.
-        assert_eq!(events(&recording(100, 1, &[(5, 1)]), 0), (vec![], vec![]));
-        assert_eq!(events(&recording(100, 1, &[(6, 1)]), 0), (vec![1], vec![]));
-        // Rounded to tick 9, and to tick 10, which is d.
-        assert_eq!(events(&recording(100, 1, &[(94, 1)]), 0), (vec![9], vec![]));
-        assert_eq!(events(&recording(100, 1, &[(95, 1)]), 0), (vec![], vec![]));
-        let fall = |ms| recording(104, 1, &[(20, 1), (ms, 0)]);
-        assert_eq!(events(&fall(94), 0), (vec![2], vec![9]));
-        assert_eq!(events(&fall(97), 0), (vec![2], vec![]));
+        // Low at first, and high at a time that is rounded to a tick.
+        let rise = |ms| events(&recording(100, 1, &[(0, 0), (ms, 1)]), 0);
+        // To tick 0, and to tick 1.
+        assert_eq!(rise(5), (vec![], vec![]));
+        assert_eq!(rise(6), (vec![1], vec![]));
+        // To tick 9, and to tick 10, which is d.
+        assert_eq!(rise(94), (vec![9], vec![]));
+        assert_eq!(rise(95), (vec![], vec![]));
+        let fall = |ms| events(&recording(104, 1, &[(0, 0), (20, 1), (ms, 0)]), 0);
+        assert_eq!(fall(94), (vec![2], vec![9]));
+        assert_eq!(fall(97), (vec![2], vec![]));
         // A drive of one tick has no moment between two ticks.
-        assert_eq!(events(&recording(10, 1, &[(0, 1)]), 0), (vec![], vec![]));
-        assert_eq!(events(&recording(20, 1, &[(10, 1)]), 0), (vec![1], vec![]));
+        let one_tick = recording(10, 1, &[(0, 0), (6, 1)]);
+        assert_eq!(events(&one_tick, 0), (vec![], vec![]));
+        let two_ticks = recording(20, 1, &[(0, 0), (10, 1)]);
+        assert_eq!(events(&two_ticks, 0), (vec![1], vec![]));
     }
 
     #[test]
     fn a_change_that_others_on_its_tick_hide_is_no_event() {
-        let blip = recording(100, 1, &[(48, 1), (52, 0)]);
-        assert_eq!(events(&blip, 0), (vec![], vec![]));
-        let dip = recording(100, 1, &[(20, 1), (48, 0), (52, 1)]);
-        assert_eq!(events(&dip, 0), (vec![2], vec![]));
-        let thrice = recording(100, 1, &[(46, 1), (49, 0), (52, 1)]);
-        assert_eq!(events(&thrice, 0), (vec![5], vec![]));
-        let hidden = recording(100, 1, &[(46, 0), (49, 1), (52, 0)]);
-        assert_eq!(events(&hidden, 0), (vec![], vec![]));
+        let after_low = |changes: &[(u32, u16)]| {
+            let changes = [&[(0, 0)], changes].concat();
+            events(&recording(100, 1, &changes), 0)
+        };
+        assert_eq!(after_low(&[(48, 1), (52, 0)]), (vec![], vec![]));
+        let dip = after_low(&[(20, 1), (48, 0), (52, 1)]);
+        assert_eq!(dip, (vec![2], vec![]));
+        let thrice = after_low(&[(46, 1), (49, 0), (52, 1)]);
+        assert_eq!(thrice, (vec![5], vec![]));
+        let hidden = after_low(&[(46, 0), (49, 1), (52, 0)]);
+        assert_eq!(hidden, (vec![], vec![]));
         // The high level at tick 0 that another change there takes back.
         let at_0 = recording(100, 1, &[(0, 1), (4, 0), (10, 1)]);
         assert_eq!(events(&at_0, 0), (vec![1], vec![]));

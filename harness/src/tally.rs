@@ -5,6 +5,7 @@ use std::fmt;
 use crate::by_times::Counted;
 use crate::finder::Found;
 use crate::quick::BLOCK;
+use crate::recording::FirstReport;
 use crate::refusal::Refusal;
 
 /// Calls by returned number, 0 being acceptance.
@@ -48,6 +49,48 @@ impl Numbers {
     }
 }
 
+/// Accepted drills that ask for a low channel or an event, by when the drive is first reported: what
+/// such a drill lists shows what the ticks before that count for.
+#[derive(Clone, Debug, Default)]
+pub struct FirstReports {
+    at_once: u64,
+    late: u64,
+    on_the_last_tick: u64,
+    on_tick_d: u64,
+    never: u64,
+}
+
+impl FirstReports {
+    pub fn note(&mut self, first: FirstReport) {
+        let count = match first {
+            FirstReport::AtOnce => &mut self.at_once,
+            FirstReport::Late => &mut self.late,
+            FirstReport::OnTheLastTick => &mut self.on_the_last_tick,
+            FirstReport::OnTickD => &mut self.on_tick_d,
+            FirstReport::Never => &mut self.never,
+        };
+        *count += 1;
+    }
+
+    /// Each count, and what it counts.
+    fn each(&self) -> [(u64, &'static str); 5] {
+        [
+            (self.at_once, "first reported at tick 0"),
+            (self.late, "first reported after tick 0"),
+            (self.on_the_last_tick, "first reported on the last tick"),
+            (self.on_tick_d, "first reported on tick d"),
+            (self.never, "never reported"),
+        ]
+    }
+}
+
+impl fmt::Display for FirstReports {
+    fn fmt(&self, out: &mut fmt::Formatter) -> fmt::Result {
+        let counts = self.each().map(|(count, what)| format!("{count} {what}"));
+        out.write_str(&counts.join(", "))
+    }
+}
+
 /// What was compared.
 #[derive(Default)]
 pub struct Tally {
@@ -61,6 +104,7 @@ pub struct Tally {
     pub rises: u64,
     /// Accepted drills with a fall that lists a zone.
     pub falls: u64,
+    pub first_reports: FirstReports,
     zones: u64,
     stars: u64,
     most_rounds: u64,
@@ -128,6 +172,11 @@ impl Tally {
                 missing.push(what.into());
             }
         }
+        for (count, what) in self.first_reports.each() {
+            if count == 0 {
+                missing.push(format!("accepted on a drive {what}"));
+            }
+        }
         missing
     }
 
@@ -140,6 +189,13 @@ impl Tally {
             halves_down: 1,
             rises: 1,
             falls: 1,
+            first_reports: FirstReports {
+                at_once: 1,
+                late: 1,
+                on_the_last_tick: 1,
+                on_tick_d: 1,
+                never: 1,
+            },
             told: Numbers([1; Refusal::NUMBERS]),
             last_rounds: 1,
             after_13: 1,
@@ -162,14 +218,16 @@ impl fmt::Display for Tally {
         write!(
             out,
             "{} calls, accepted {} ({} of them with a bound that is not reached, {} with a half that \
-             goes down, {} with a rise and {} with a fall that lists a zone) with {} zones and {} stars \
-             (at most {} rounds, all within n + d), {}; ",
+             goes down, {} with a rise and {} with a fall that lists a zone; asking for a low channel or \
+             an event, on drives: {}) with {} zones and {} stars (at most {} rounds, all within n + d), \
+             {}; ",
             self.alone.total(),
             self.alone.accepted(),
             self.not_reached,
             self.halves_down,
             self.rises,
             self.falls,
+            self.first_reports,
             self.zones,
             self.stars,
             self.most_rounds,
@@ -211,7 +269,7 @@ mod tests {
     fn a_campaign_misses_what_never_came_up() {
         assert_eq!(Tally::full().missing(), [""; 0]);
         type Take = fn(&mut Tally);
-        let taken: [(Take, &str); 16] = [
+        let taken: [(Take, &str); 21] = [
             (|tally| tally.alone.0[1] = 0, "refused 1"),
             (|tally| tally.alone.0[11] = 0, "refused 11"),
             (
@@ -229,6 +287,26 @@ mod tests {
             (
                 |tally| tally.falls = 0,
                 "accepted with a fall that lists a zone",
+            ),
+            (
+                |tally| tally.first_reports.at_once = 0,
+                "accepted on a drive first reported at tick 0",
+            ),
+            (
+                |tally| tally.first_reports.late = 0,
+                "accepted on a drive first reported after tick 0",
+            ),
+            (
+                |tally| tally.first_reports.on_the_last_tick = 0,
+                "accepted on a drive first reported on the last tick",
+            ),
+            (
+                |tally| tally.first_reports.on_tick_d = 0,
+                "accepted on a drive first reported on tick d",
+            ),
+            (
+                |tally| tally.first_reports.never = 0,
+                "accepted on a drive never reported",
             ),
             (
                 |tally| tally.told.0[0] = 0,
@@ -260,6 +338,25 @@ mod tests {
             let mut tally = Tally::full();
             take(&mut tally);
             assert_eq!(tally.missing(), [missed]);
+        }
+    }
+
+    #[test]
+    fn each_first_report_counts_for_itself() {
+        let kinds = [
+            FirstReport::AtOnce,
+            FirstReport::Late,
+            FirstReport::OnTheLastTick,
+            FirstReport::OnTickD,
+            FirstReport::Never,
+        ];
+        for (kind, at) in kinds.into_iter().zip(0..) {
+            let mut counts = FirstReports::default();
+            counts.note(kind);
+            let noted = counts.each().map(|(count, _)| count);
+            let mut expected = [0; 5];
+            expected[at] = 1;
+            assert_eq!(noted, expected, "{kind:?}");
         }
     }
 

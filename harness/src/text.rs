@@ -10,7 +10,8 @@
 //!
 //! The first line gives the duration in milliseconds and the number of channels. Each line after
 //! it is a change: the time in milliseconds, and the letters of the channels that are high from
-//! then on, `-` for none. Blank lines count for nothing, nor does what follows a `#`.
+//! then on, `-` for none. Blank lines count for nothing, nor does what follows a `#`. Before the first
+//! change no channel is high or low.
 //!
 //! The text says what stands in the bytes, sound or not, so that a wrong recording can be written
 //! too; [`Written::complaint`] says where the finder would refuse it.

@@ -1,6 +1,7 @@
 -- The marked set, computed from R's bytes and the drills' texts.
 use mathlib.Core.Path.{_≡_, refl, sym, subst}
 use mathlib.Core.Bool.{true, false}
+use mathlib.Core.Logic.{_↔_, _⊎_, ⊎-map}
 use mathlib.Core.List.{List, [], _∷_, _++_, List·Memᴰ, List·Memᴰ·head, List·Memᴰ·tail, List·Memᴰ·not-nil as not-nil}
 use Prim.Native.Nat.{ℕ, _+_, _-_, _*_, _≤_, min}
 use native.Mathlib.Omega.{arith}
@@ -8,14 +9,16 @@ use borrow.Author.Tests.{ltb-true, ltb-false, leb-true}
 use lib.Dec.{leb, ltb}
 use lib.IntN.{ℤ}
 use lib.ListN.{length}
+use Rattle.limit.specs.Time.{Time, atTick, _≤ᵀ_, _≈ᵀ_}
 use Rattle.zone.specs.declared.Zone.{Zone}
 use Rattle.limit.specs.Limit.{lesser, _⊕_}
-use Rattle.zone.specs.Zone.{tighter, where-room, tighten, both, meet, across, compose, run, diagonal, everything, limited, band as bandOf}
+use Rattle.zone.specs.Zone.{Stretch, tighter, where-room, tighten, both, meet, across, compose, run, diagonal, everything, limited, band as bandOf}
 use Rattle.words.specs.Words.{zone-words}
 use Rattle.list.specs.Insert.{covered, outside, insert, insert-each}
 use Rattle.pairs.specs.Pairs.{pairs}
 use Rattle.operators.specs.Operators.{union as unite, meets, compositions, banded}
 use Rattle.recording.specs.Reading.{tick, le16, le32, ticks, channels}
+use Rattle.recording.specs.Changes.{begins}
 use Rattle.runs.specs.declared.Level.{Level}
 use Rattle.runs.specs.Levels.{Shows}
 use Rattle.runs.specs.Search.{other}
@@ -25,14 +28,20 @@ use Rattle.runs.specs.declared.Run.{Run}
 use Rattle.recording.specs.declared.Reading.the-variants.{Recorded}
 use Rattle.runs.proofs.Events.{endsBefore, shows-events}
 use Rattle.runs.proofs.Examples.{R as example}
-use Rattle.expression.specs.Expression.{Expression, depth}
+use Rattle.expression.specs.Expression.{Expression, literal, join, unary, depth}
+use Rattle.expression.specs.Grammar.{Form, alternative}
 use Rattle.expression.specs.Refusal.{Accepted}
 use Rattle.tokens.specs.Tokens.{yes, branch, bind, starts, rest, expect, ranged, signed, digits, numeral, numbered, bound, upperEnd, limits}
 use Rattle.descent.specs.Descent.{postfixes, joining, read, height, descent}
-use Rattle.expression.specs.declared.Join.the-variants.{Union as bars}
+use Rattle.expression.specs.declared.Sign.the-variants.{High, Low}
+use Rattle.expression.specs.declared.Join.the-variants.{Union}
+use Rattle.expression.specs.declared.Unary.the-variants.{Star}
+use Rattle.text.specs.Text.{ascii}
 use Rattle.parser.specs.Readers.{width, wrong}
-use Rattle.descent.proofs.Complete.{whole-sound}
+use Rattle.descent.proofs.Complete.{whole-sound, unique}
 use Rattle.parser.proofs.Parses.{right-length, accepted}
+use Rattle.meaning.specs.Satisfies.{Satisfies}
+use Rattle.meaning.proofs.Reported.{either-level}
 use Rattle.meaning.specs.Lists.{value, ended, Then.goes, runZones, Letter, momentZones, Moments, Evaluates}
 use Rattle.outcome.specs.declared.Outcome.the-variants.{Finished}
 use Rattle.calls.specs.Outcome.{Comes, room, words, fronted, cleared, FindAs}
@@ -50,7 +59,7 @@ Passes text e =
     ≡ true ∷ false ∷ true ∷ false ∷ true ∷ []
 
 -- A text that is read as an expression and passes the tests is accepted ..
-passed : {text : List ℕ} {e : Expression} → descent (joining bars) text ≡ yes e [] → Passes text e → Accepted text (channels R) e
+passed : {text : List ℕ} {e : Expression} → descent (joining Union) text ≡ yes e [] → Passes text e → Accepted text (channels R) e
 passed {text} {e} form pass =
     let a : ltb 0 (length text) ≡ true = cc in
     let b : ltb 255 (length text) ≡ false = cc in
@@ -61,7 +70,7 @@ passed {text} {e} form pass =
     accepted (right-length text (λ n. omega arith) (ltb-false _ _ b)) (whole-sound text e form) (leb-true _ _ c) d (leb-true _ _ f)
 
 -- .. and a call on it, with room for the list that it comes to, has one result.
-gives : {text : List ℕ} {e : Expression} {L : List Zone} {r : ℕ} → descent (joining bars) text ≡ yes e [] → Passes text e
+gives : {text : List ℕ} {e : Expression} {L : List Zone} {r : ℕ} → descent (joining Union) text ≡ yes e [] → Passes text e
     → Evaluates (Shows R) 0 (ticks R) e (value L r)
     → (answer work : List ℤ) → length L * zone-words ≤ length answer → room ≤ length work → Gives text 0 r L answer work
 gives {text} {e} {L} {r} form pass evaluates answer work long roomy =
@@ -126,6 +135,7 @@ marked-set x =
     let fall = went-over (example .highs-are) in
     each
     (gives refl refl a
+    ⨾ gives refl refl not-a
     ⨾ gives refl refl (goes a (goes a refl refl) refl)
     ⨾ gives refl refl (goes a (goes a refl refl) refl)
     ⨾ gives refl refl (goes a (goes not-a refl refl) refl)
@@ -141,6 +151,7 @@ marked-set x =
     ⨾ gives refl refl rise
     ⨾ gives refl refl fall
     ⨾ gives refl refl (goes rise (goes (goes a refl refl) refl refl) refl)
+    ⨾ gives refl refl (goes fall (goes (goes not-a refl refl) refl refl) refl)
     ⨾ gives refl refl (goes a (goes fall refl refl) refl)
     ⨾ gives refl refl (goes rise refl refl)
     ⨾ refl
@@ -148,3 +159,15 @@ marked-set x =
     ⨾ refl
     ⨾ refl
     ⨾ done)
+
+-- ---- what is reported
+
+-- "`(a|!a)*` on R now fits the diagonal and every stretch from tick 2 on": of the stretches themselves, whatever zones they are listed in.
+pub either-level-on-R : (drill : Expression) → Form alternative (ascii "(a|!a)*") drill
+    → (x y : Time) → Stretch 0 (ticks R) x y → Satisfies (Shows R) drill x y ↔ ((x ≈ᵀ y) ⊎ (atTick 2 ≤ᵀ x))
+unfolding tick le32 le16 begins descent read height branch bind starts rest expect ranged signed postfixes
+either-level-on-R drill form x y inside =
+    let is : drill ≡ unary Star (join Union (literal High 0) (literal Low 0)) = unique form (whole-sound (ascii "(a|!a)*") _ refl) in
+    let h = either-level (example .read .1) 0 x y in
+    subst (λ (e : Expression). Satisfies (Shows R) e x y ↔ ((x ≈ᵀ y) ⊎ (atTick 2 ≤ᵀ x))) (sym is)
+    (λ s. ⊎-map (λ e. e) (λ i. i .0) (h .0 s), λ s. h .1 (⊎-map (λ e. e) (λ i. (i, inside .1, inside .2)) s))

@@ -70,6 +70,7 @@ pub data Row : Type 0 where
 abbrev pub marked : List Row
 marked =
     drill "a" number 0 rounds 0 zones (start ⟦ 2 ‥ 7 ⟯ end ⟮ 2 ‥ 7 ⟧ length ⟮ 0 ‥ 5 ⟧ ∷ [])
+    ∷ drill "!a" number 0 rounds 0 zones (start ⟦ 7 ‥ 10 ⟯ end ⟮ 7 ‥ 10 ⟧ length ⟮ 0 ‥ 3 ⟧ ∷ [])
     ∷ drill "a.a" number 0 rounds 0 zones (start ⟦ 2 ‥ 7 ⟯ end ⟮ 2 ‥ 7 ⟧ length ⟮ 0 ‥ 5 ⟧ ∷ [])
     ∷ drill "a|a" number 0 rounds 0 zones (start ⟦ 2 ‥ 7 ⟯ end ⟮ 2 ‥ 7 ⟧ length ⟮ 0 ‥ 5 ⟧ ∷ [])
     ∷ drill "a.!a" number 0 rounds 0 zones (start ⟦ 2 ‥ 7 ⟯ end ⟮ 7 ‥ 10 ⟧ length ⟮ 0 ‥ 8 ⟧ ∷ [])
@@ -82,9 +83,10 @@ marked =
     ∷ drill "a{<5,}" number 0 rounds 0 zones []
     ∷ drill "a&!a" number 0 rounds 0 zones []
     ∷ drill "_" number 0 rounds 0 zones (start ⟦ 0 ‥ 10 ⟧ end ⟦ 0 ‥ 10 ⟧ length ⟦ 0 ‥ 0 ⟧ ∷ [])
-    ∷ drill "+a" number 0 rounds 0 zones (start ⟦ 2 ‥ 2 ⟧ end ⟦ 2 ‥ 2 ⟧ length ⟦ 0 ‥ 0 ⟧ ∷ [])
+    ∷ drill "+a" number 0 rounds 0 zones []
     ∷ drill "-a" number 0 rounds 0 zones (start ⟦ 7 ‥ 7 ⟧ end ⟦ 7 ‥ 7 ⟧ length ⟦ 0 ‥ 0 ⟧ ∷ [])
-    ∷ drill "+a.a{0,3}" number 0 rounds 0 zones (start ⟦ 2 ‥ 2 ⟧ end ⟮ 2 ‥ 5 ⟧ length ⟮ 0 ‥ 3 ⟧ ∷ [])
+    ∷ drill "+a.a{0,3}" number 0 rounds 0 zones []
+    ∷ drill "-a.!a{0,3}" number 0 rounds 0 zones (start ⟦ 7 ‥ 7 ⟧ end ⟮ 7 ‥ 10 ⟧ length ⟮ 0 ‥ 3 ⟧ ∷ [])
     ∷ drill "a.-a" number 0 rounds 0 zones (start ⟦ 2 ‥ 7 ⟯ end ⟦ 7 ‥ 7 ⟧ length ⟮ 0 ‥ 5 ⟧ ∷ [])
     ∷ drill "+a{1,}" number 0 rounds 0 zones []
     ∷ 24 ms-is-tick 2

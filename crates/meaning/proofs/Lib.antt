@@ -1,6 +1,7 @@
 -- Laws on what a drill means.
 pub mod Strict
 pub mod Meaning
+pub mod Reported
 pub mod Evaluation
 pub mod Members
 pub mod Totals

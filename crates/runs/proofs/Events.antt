@@ -8,14 +8,16 @@ use native.Mathlib.Decide.{decLe}
 use native.Mathlib.Omega.{arith}
 use borrow.Author.Tests.{ltb-true, ltb-false}
 use lib.Dec.{ltb}
-use Rattle.recording.specs.Reading.{ticks}
+use Rattle.recording.specs.Reading.{ticks, IsRecording}
+use Rattle.recording.specs.Changes.{begins}
+use Rattle.recording.specs.declared.Dimensions.{Dimensions}
 use Rattle.runs.specs.Levels.{Shows}
 use Rattle.runs.specs.Search.{other}
 use Rattle.runs.specs.Runs.{Maximal, Rising, none, next, Runs}
 use Rattle.runs.specs.Events.{Event, Events}
 use Rattle.runs.specs.declared.Level.{Level}
 use Rattle.runs.specs.declared.Run.{Run}
-use Rattle.runs.proofs.Levels.{shows-ticks, shows-one, shows-next}
+use Rattle.runs.proofs.Levels.{shows-one, shows-next, since}
 use Rattle.runs.proofs.Rising.{same-members}
 use Rattle.runs.proofs.Runs.{Complete, apart}
 use Rattle.runs.proofs.Handed.{shows-held}
@@ -127,11 +129,15 @@ module _ {P Q : ℕ → Type 0} {d : ℕ} (one : (n : ℕ) → P n → Q n → �
 module _ (bytes : List ℕ) (channel : ℕ) (level : Level) where
   -- An event lies inside the drive, since nothing shows outside it: 0 < s < d.
   pub event-inside : {after : Level} {s : ℕ} → Event (Shows bytes channel level) (Shows bytes channel after) s → (0 < s) × (s < ticks bytes)
-  event-inside e = (e .some, shows-ticks (e .is))
+  event-inside e = (e .some, e .is .inside)
+
+  -- It "needs both of its ticks reported", so that the first report is none.
+  pub event-reported : {size : Dimensions} → IsRecording bytes size → {after : Level} {s : ℕ} → Event (Shows bytes channel level) (Shows bytes channel after) s → begins bytes 1 < s
+  event-reported read {s = s} e = omega (arith, e .some, since read (e .was) .0)
 
   -- the events where the channel leaves the level
   pub shows-events : (from to : ℕ) {rs : List Run} → Runs (Shows bytes channel level) (from - 1) (min (to + 1) (ticks bytes)) rs
       → Events (Shows bytes channel level) (Shows bytes channel (other level)) from to (endsBefore (min (to + 1) (ticks bytes)) rs)
   shows-events from to rs =
-      run-ends (shows-one bytes channel level) (shows-next bytes channel level) (λ n q. shows-ticks q)
+      run-ends (shows-one bytes channel level) (shows-next bytes channel level) (λ n q. q .inside)
       (record { runs = rs; covers = λ k a b p. shows-held bytes channel level (from - 1) (min (to + 1) (ticks bytes)) rs k a b .0 p })

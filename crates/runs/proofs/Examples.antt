@@ -48,37 +48,37 @@ computed bytes d e = record {
 }
 
 -- recording R: duration 100 ms, one channel, high at 20, low at 70
-pub R : Example (head 100 ++ (high 20 ++ low 70)) 10 (to 2 7 ∷ []) (to 0 2 ∷ to 7 10 ∷ [])
+pub R : Example (head 100 ++ (high 20 ++ low 70)) 10 (to 2 7 ∷ []) (to 7 10 ∷ [])
 unfolding reading sized headed allChanged changed hasMark le32 le16 tick runsOf shown leavesAt levelIn
 R = computed _ 10 refl
 
 -- two changes on tick 2: the last stands
-pub one-tick : Example (head 100 ++ (high 20 ++ (low 24 ++ high 70))) 10 (to 7 10 ∷ []) (to 0 7 ∷ [])
+pub one-tick : Example (head 100 ++ (high 20 ++ (low 24 ++ high 70))) 10 (to 7 10 ∷ []) (to 2 7 ∷ [])
 unfolding reading sized headed allChanged changed hasMark le32 le16 tick runsOf shown leavesAt levelIn
 one-tick = computed _ 10 refl
 
--- a change on tick d has no effect
-pub at-the-end : Example (head 100 ++ high 96) 10 [] (to 0 10 ∷ [])
+-- a change on tick d has no effect, and where it is the first, nothing is reported
+pub at-the-end : Example (head 100 ++ high 96) 10 [] []
 unfolding reading sized headed allChanged changed hasMark le32 le16 tick runsOf shown leavesAt levelIn
 at-the-end = computed _ 10 refl
 
 -- a duration that rounds up: 95 ms is 10 ticks
-pub rounded-up : Example (head 95 ++ high 50) 10 (to 5 10 ∷ []) (to 0 5 ∷ [])
+pub rounded-up : Example (head 95 ++ high 50) 10 (to 5 10 ∷ []) []
 unfolding reading sized headed allChanged changed hasMark le32 le16 tick runsOf shown leavesAt levelIn
 rounded-up = computed _ 10 refl
 
 -- one that rounds down: 105 ms is 10 ticks, so that a change at 101 ms has no effect
-pub rounded-down : Example (head 105 ++ high 101) 10 [] (to 0 10 ∷ [])
+pub rounded-down : Example (head 105 ++ high 101) 10 [] []
 unfolding reading sized headed allChanged changed hasMark le32 le16 tick runsOf shown leavesAt levelIn
 rounded-down = computed _ 10 refl
 
 -- 20 and 25 ms are one tick, 25 and 30 ms are two
-pub one-tick-of-two : Example (head 100 ++ (high 20 ++ (low 25 ++ high 30))) 10 (to 3 10 ∷ []) (to 0 3 ∷ [])
+pub one-tick-of-two : Example (head 100 ++ (high 20 ++ (low 25 ++ high 30))) 10 (to 3 10 ∷ []) (to 2 3 ∷ [])
 unfolding reading sized headed allChanged changed hasMark le32 le16 tick runsOf shown leavesAt levelIn
 one-tick-of-two = computed _ 10 refl
 
--- no change at all: low throughout
-pub no-change : Example (head 100) 10 [] (to 0 10 ∷ [])
+-- no change at all: nothing is reported
+pub no-change : Example (head 100) 10 [] []
 unfolding reading sized headed allChanged changed hasMark le32 le16 tick runsOf shown leavesAt levelIn
 no-change = computed _ 10 refl
 
@@ -86,6 +86,15 @@ no-change = computed _ 10 refl
 pub at-once : Example (head 100 ++ high 0) 10 (to 0 10 ∷ []) []
 unfolding reading sized headed allChanged changed hasMark le32 le16 tick runsOf shown leavesAt levelIn
 at-once = computed _ 10 refl
+
+-- .. and is on tick 0 still at 5 ms, and on tick 2 at 15: before it nothing is reported
+pub first-at-5 : Example (head 100 ++ low 5) 10 [] (to 0 10 ∷ [])
+unfolding reading sized headed allChanged changed hasMark le32 le16 tick runsOf shown leavesAt levelIn
+first-at-5 = computed _ 10 refl
+
+pub first-at-15 : Example (head 100 ++ low 15) 10 [] (to 2 10 ∷ [])
+unfolding reading sized headed allChanged changed hasMark le32 le16 tick runsOf shown leavesAt levelIn
+first-at-15 = computed _ 10 refl
 
 -- a second head is a wrong change
 pub second-head : RecordingRefused 32768 (head 100 ++ head 100) 3

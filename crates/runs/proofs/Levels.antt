@@ -1,16 +1,16 @@
 -- The level of a channel in a tick, computed, and told from the change that holds there.
 use mathlib.Core.Path.{_≡_, refl, sym, ap, subst, _∙_}
-use mathlib.Core.Bool.{Bool, true, false, not, cond, _&&_}
+use mathlib.Core.Bool.{Bool, true, false, cond, _&&_}
 use mathlib.Core.List.{List}
-use mathlib.Core.Logic.{_↔_, _⊎_, inl, inr}
+use mathlib.Core.Logic.{_↔_, _⊎_, inl, inr, ⊎-map, ⊎-elim}
 use Prim.Native.Nat.{ℕ, zero, suc, _+_, _-_, _≤_, _<_}
 use native.Mathlib.Decide.{decLe, ℕ-discrete}
 use native.Mathlib.Omega.{arith}
 use borrow.Author.Tests.{ltb-true, ltb-false, leb-true, leb-false, le-leb, ne-eqb}
-use lib.Dec.{eqb, leb, ltb}
+use lib.Dec.{leb, ltb}
 use Rattle.recording.specs.Reading.{tick, ticks, time, levels, changes, IsRecording}
 use Rattle.recording.specs.Changes.{begins}
-use Rattle.runs.specs.Levels.{levelIn, Stands, Shows, reported, unreported}
+use Rattle.runs.specs.Levels.{levelIn, Stands, Shows}
 use Rattle.runs.specs.Search.{other, sameLevel, leavesAt}
 use Rattle.runs.specs.declared.Level.{Level}
 use Rattle.runs.specs.declared.Level.the-variants.{High, Low}
@@ -19,62 +19,61 @@ use Rattle.recording.proofs.Changes.{begins-change, begins-end, begins-mono, be
 
 -- THE LEVEL, COMPUTED
 
+cannot : false ≡ true → ⊥
+cannot e = let z : _≡_ {A = ℕ} 0 1 = cc in omega arith
+
 same-is : (a b : Level) → (sameLevel a b ≡ true) ↔ (a ≡ b)
 same-is High High = (λ _. refl, λ _. refl)
 same-is Low Low = (λ _. refl, λ _. refl)
 same-is High Low = (λ e. cc, λ e. cc)
 same-is Low High = (λ e. cc, λ e. cc)
 
-leaves-low : (bytes : List ℕ) (channel : ℕ) (level : Level) → (leavesAt bytes channel level 0 ≡ true) ↔ (Low ≡ level)
-unfolding leavesAt
-leaves-low bytes channel level = same-is Low level
-
 leaves-is : (bytes : List ℕ) (channel : ℕ) (level : Level) (j : ℕ) → 0 < j
     → (leavesAt bytes channel level j ≡ true) ↔ (levelIn (levels bytes j) channel ≡ level)
 unfolding leavesAt
 leaves-is bytes channel level j h = rw (ne-eqb j 0 (omega arith)) (same-is _ level)
 
--- in tick k, after the changes 1 to n, the channel has the level
+-- of the changes 1 to n, one stands in tick k and leaves the channel at the level
 shownBy : List ℕ → ℕ → Level → ℕ → ℕ → Bool
-shownBy bytes channel level k zero = leavesAt bytes channel level 0
+shownBy bytes channel level k zero = false
 shownBy bytes channel level k (suc n) =
     cond (leb (tick (time bytes (suc n))) k) (leavesAt bytes channel level (suc n)) (shownBy bytes channel level k n)
 
+-- one change at most stands in a tick
+not-later : {bytes : List ℕ} {k i j : ℕ} → Stands bytes k i → Stands bytes k j → j ≤ i
+not-later {i = i} {j = j} a b = elim (decLe j i) [ yes q ↦ q | no q ↦ omega (arith, b .begun, a .last j (omega arith) (b .change)) ]
+
+stands-one : {bytes : List ℕ} {k i j : ℕ} → Stands bytes k i → Stands bytes k j → i ≡ j
+stands-one a b = omega (arith, not-later a b, not-later b a)
+
+-- all changes after the n-th are later than tick k
+abbrev LaterThan : List ℕ → ℕ → ℕ → Type 0
+LaterThan bytes k n = (i : ℕ) → n < i → i ≤ changes bytes → k < tick (time bytes i)
+
+one-less : (bytes : List ℕ) (k n : ℕ) → LaterThan bytes k (suc n) → k < tick (time bytes (suc n)) → LaterThan bytes k n
+one-less bytes k n later now i a b =
+    elim (ℕ-discrete i (suc n)) [ yes q ↦ subst (λ (j : ℕ). k < tick (time bytes j)) (sym q) now | no q ↦ later i (omega arith) b ]
+
 module _ (bytes : List ℕ) (channel : ℕ) (level : Level) (k : ℕ) (now : k < ticks bytes) where
-  -- with all changes after the n-th later than tick k, the n-th decides
-  after : (n : ℕ) → n ≤ changes bytes → ((i : ℕ) → n < i → i ≤ changes bytes → k < tick (time bytes i))
-      → (shownBy bytes channel level k n ≡ true) ↔ Shows bytes channel level k
+  -- with all changes after the n-th later than tick k, the test of the n-th decides
+  after : (n : ℕ) → n ≤ changes bytes → LaterThan bytes k n → (shownBy bytes channel level k n ≡ true) ↔ Shows bytes channel level k
   unfolding shownBy
-  after zero h later = let low = leaves-low bytes channel level in (λ e. unreported now later (low .0 e), λ s. low .1 (back s))
+  after zero h later = (λ e. absurd (cannot e), λ s. absurd (none s))
     where
-      back : Shows bytes channel level k → Low ≡ level
-      back (reported {j} _ s e) = let q = later j (s .first) (s .change) in absurd (never (s .begun) q)
-        where
-          never : tick (time bytes j) ≤ k → k < tick (time bytes j) → ⊥
-          never a b = omega arith
-      back (unreported _ _ e) = e
+      none : Shows bytes channel level k → ⊥
+      none s = omega (arith, s .stands .begun, later (s .change) (s .stands .first) (s .stands .change))
   after (suc n) h later = go (after n (omega arith)) (leb (tick (time bytes (suc n))) k) refl
     where
-      never : (j : ℕ) → tick (time bytes j) ≤ k → k < tick (time bytes j) → ⊥
-      never j a b = omega arith
-
-      go : (((i : ℕ) → n < i → i ≤ changes bytes → k < tick (time bytes i)) → (shownBy bytes channel level k n ≡ true) ↔ Shows bytes channel level k)
+      go : (LaterThan bytes k n → (shownBy bytes channel level k n ≡ true) ↔ Shows bytes channel level k)
           → (t : Bool) → leb (tick (time bytes (suc n))) k ≡ t
           → (cond t (leavesAt bytes channel level (suc n)) (shownBy bytes channel level k n) ≡ true) ↔ Shows bytes channel level k
       go before true e =
-          let is = leaves-is bytes channel level (suc n) (omega arith) in
-          (λ l. reported {j = suc n} now (record { first = omega arith; change = h; begun = leb-true _ _ e; last = later }) (is .0 l), λ s. is .1 (back s))
-        where
-          this : (j : ℕ) → Stands bytes k j → j ≡ suc n
-          this j s = elim (decLe j n) [
-            | yes a ↦ absurd (never (suc n) (leb-true _ _ e) (s .last (suc n) (omega arith) h))
-            | no a ↦ elim (decLe j (suc n)) [ yes b ↦ omega arith | no b ↦ absurd (never j (s .begun) (later j (omega arith) (s .change))) ]
-          ]
-
-          back : Shows bytes channel level k → levelIn (levels bytes (suc n)) channel ≡ level
-          back (reported {j} _ s l) = subst (λ (i : ℕ). levelIn (levels bytes i) channel ≡ level) (this j s) l
-          back (unreported _ f _) = absurd (never (suc n) (leb-true _ _ e) (f (suc n) (omega arith) h))
-      go before false e = before (λ i a b. elim (ℕ-discrete i (suc n)) [ yes q ↦ subst (λ (j : ℕ). k < tick (time bytes j)) (sym q) (leb-false _ _ e) | no q ↦ later i (omega arith) b ])
+          let this : Stands bytes k (suc n) = record { first = omega arith; change = h; begun = leb-true _ _ e; last = later } in
+          let is = leaves-is bytes channel level (suc n) (omega arith) in (
+            λ l. record { inside = now; change = suc n; stands = this; left = is .0 l },
+            λ s. is .1 (subst (λ (i : ℕ). levelIn (levels bytes i) channel ≡ level) (stands-one (s .stands) this) (s .left)),
+          )
+      go before false e = before (one-less bytes k n later (leb-false _ _ e))
 
 -- the test for a level in a tick
 unfoldable pub shown : List ℕ → ℕ → Level → ℕ → Bool
@@ -90,72 +89,57 @@ shown-is bytes channel level k = go (ltb k (ticks bytes)) refl
     go true e = after bytes channel level k (ltb-true _ _ e) (changes bytes) (omega arith) (λ i a b. omega arith)
     go false e = (λ h. absurd (cannot h), λ h. absurd (early h))
       where
-        cannot : false ≡ true → ⊥
-        cannot h = let z : _≡_ {A = ℕ} 0 1 = cc in omega arith
-
-        late : ticks bytes ≤ k → k < ticks bytes → ⊥
-        late a b = omega arith
-
         early : Shows bytes channel level k → ⊥
-        early (reported h _ _) = late (ltb-false _ _ e) h
-        early (unreported h _ _) = late (ltb-false _ _ e) h
+        early s = omega (arith, s .inside, ltb-false k (ticks bytes) e)
 
 -- ONE LEVEL OR THE OTHER
 
-same-other : (a level : Level) → sameLevel a (other level) ≡ not (sameLevel a level)
-same-other High High = refl
-same-other High Low = refl
-same-other Low High = refl
-same-other Low Low = refl
+differ : (level : Level) → level ≡ other level → ⊥
+differ High e = let z : _≡_ {A = ℕ} 0 1 = cc in omega arith
+differ Low e = let z : _≡_ {A = ℕ} 0 1 = cc in omega arith
 
-cond-not : (t : Bool) {a b : Bool} (c d : Bool) → a ≡ not c → b ≡ not d → cond t a b ≡ not (cond t c d)
-cond-not true c d p q = p
-cond-not false c d p q = q
+either : (a level : Level) → (a ≡ level) ⊎ (a ≡ other level)
+either High High = inl refl
+either High Low = inr refl
+either Low High = inr refl
+either Low Low = inl refl
 
-leaves-other : (bytes : List ℕ) (channel : ℕ) (level : Level) (j : ℕ) → leavesAt bytes channel (other level) j ≡ not (leavesAt bytes channel level j)
-unfolding leavesAt
-leaves-other bytes channel level j = cond-not (eqb j 0) _ _ (same-other Low level) (same-other (levelIn (levels bytes j) channel) level)
-
-shown-other : (bytes : List ℕ) (channel : ℕ) (level : Level) (k n : ℕ) → shownBy bytes channel (other level) k n ≡ not (shownBy bytes channel level k n)
-unfolding shownBy
-shown-other bytes channel level k zero = leaves-other bytes channel level 0
-shown-other bytes channel level k (suc n) =
-    cond-not (leb (tick (time bytes (suc n))) k) _ _ (leaves-other bytes channel level (suc n)) (shown-other bytes channel level k n)
-
--- nothing shows outside the drive
-pub shows-ticks : {bytes : List ℕ} {channel : ℕ} {level : Level} {k : ℕ} → Shows bytes channel level k → k < ticks bytes
-shows-ticks (reported h _ _) = h
-shows-ticks (unreported h _ _) = h
+-- from the tick of a change on, it stands or a later one does
+some-stands : (bytes : List ℕ) (k j : ℕ) → 0 < j → tick (time bytes j) ≤ k → (n : ℕ) → j ≤ n → n ≤ changes bytes → LaterThan bytes k n
+    → (i : ℕ) × Stands bytes k i
+some-stands bytes k j some begun zero a h later = absurd (omega arith)
+some-stands bytes k j some begun (suc n) a h later = elim (decLe (tick (time bytes (suc n))) k) [
+  | yes q ↦ (suc n, record { first = omega arith; change = h; begun = q; last = later })
+  | no q ↦ some-stands bytes k j some begun n (before q) (omega arith) (one-less bytes k n later (omega arith))
+]
+  where
+    before : ¬ (tick (time bytes (suc n)) ≤ k) → j ≤ n
+    before q = elim (ℕ-discrete j (suc n)) [ yes e ↦ absurd (q (subst (λ (i : ℕ). tick (time bytes i) ≤ k) e begun)) | no e ↦ omega arith ]
 
 module _ (bytes : List ℕ) (channel : ℕ) (level : Level) where
-  -- after all changes, the test tells what the channel shows
-  at-last : (l : Level) (k : ℕ) → k < ticks bytes → (shownBy bytes channel l k (changes bytes) ≡ true) ↔ Shows bytes channel l k
-  at-last l k now = after bytes channel l k now (changes bytes) (omega arith) (λ i a b. omega arith)
-
   -- a channel has no two levels in a tick
   pub shows-one : (k : ℕ) → Shows bytes channel level k → Shows bytes channel (other level) k → ⊥
   shows-one k s t =
-      let a = at-last level k (shows-ticks s) .1 s in
-      let b = at-last (other level) k (shows-ticks s) .1 t in
-      let c = shown-other bytes channel level k (changes bytes) in
-      let d : not true ≡ true = ap not (sym a) ∙ sym c ∙ b in
-      let z : _≡_ {A = ℕ} 0 1 = cc in
-      omega arith
+      differ level (sym (s .left) ∙ ap (λ (j : ℕ). levelIn (levels bytes j) channel) (stands-one (s .stands) (t .stands)) ∙ t .left)
+
+  -- from the tick of a change on it has one
+  shows-some : (k j : ℕ) → 0 < j → j ≤ changes bytes → tick (time bytes j) ≤ k → k < ticks bytes
+      → Shows bytes channel level k ⊎ Shows bytes channel (other level) k
+  shows-some k j some one begun now =
+      let i = some-stands bytes k j some begun (changes bytes) one (omega arith) (λ i a b. omega arith) in
+      ⊎-map (λ e. record { inside = now; change = i .0; stands = i .1; left = e }) (λ e. record { inside = now; change = i .0; stands = i .1; left = e })
+      (either (levelIn (levels bytes (i .0)) channel) level)
 
   -- where it has a level, it has one in the next tick too
   pub shows-next : (k : ℕ) → Shows bytes channel level k → suc k < ticks bytes
       → Shows bytes channel level (suc k) ⊎ Shows bytes channel (other level) (suc k)
-  shows-next k _ now = go (shownBy bytes channel level (suc k) (changes bytes)) refl
-    where
-      go : (t : Bool) → shownBy bytes channel level (suc k) (changes bytes) ≡ t → Shows bytes channel level (suc k) ⊎ Shows bytes channel (other level) (suc k)
-      go true e = inl (at-last level (suc k) now .0 e)
-      go false e = inr (at-last (other level) (suc k) now .0 (shown-other bytes channel level (suc k) (changes bytes) ∙ ap not e))
+  shows-next k s now = shows-some (suc k) (s .change) (s .stands .first) (s .stands .change) (omega (arith, s .stands .begun)) now
 
 -- THE CHANGES DIVIDE THE TICKS
 
 by-change : (bytes : List ℕ) (channel : ℕ) (level : Level) (k j : ℕ) → j ≤ changes bytes → begins bytes j ≤ k
     → shownBy bytes channel level k j ≡ leavesAt bytes channel level j
-unfolding shownBy
+unfolding shownBy leavesAt
 by-change bytes channel level k zero h b = refl
 by-change bytes channel level k (suc j) h b = rw (le-leb _ _ (rw (begins-change bytes (suc j) (omega arith) h) at b))
 
@@ -175,5 +159,21 @@ module _ {bytes : List ℕ} {size : Dimensions} (read : IsRecording bytes size) 
           past : ticks bytes ≤ k → begins bytes (j + 1) ≤ ticks bytes → ⊥
           past p q = omega arith
 
-      later : (i : ℕ) → j < i → i ≤ changes bytes → k < tick (time bytes i)
+      later : LaterThan bytes k j
       later i p q = omega (arith, begins-mono read (j + 1) i (omega arith), begins-change bytes i (omega arith) q)
+
+  -- what shows is reported: the first change is not later
+  pub since : {channel : ℕ} {level : Level} {k : ℕ} → Shows bytes channel level k → (begins bytes 1 ≤ k) × (k < ticks bytes)
+  since s =
+      let j = s .stands in
+      (omega (arith, j .begun, begins-mono read 1 (s .change) (j .first), begins-change bytes (s .change) (j .first) (j .change)), s .inside)
+
+  -- A channel has a level exactly in the ticks from that of the first change on. Without a change, or with the first one on tick d, there are none.
+  pub reported : (channel k : ℕ) → (Shows bytes channel High k ⊎ Shows bytes channel Low k) ↔ ((begins bytes 1 ≤ k) × (k < ticks bytes))
+  reported channel k = (⊎-elim since since, λ h. some (h .0) (h .1))
+    where
+      some : begins bytes 1 ≤ k → k < ticks bytes → Shows bytes channel High k ⊎ Shows bytes channel Low k
+      some h now = elim (decLe 1 (changes bytes)) [
+        | yes q ↦ shows-some bytes channel High k 1 (omega arith) q (omega (arith, begins-change bytes 1 (omega arith) q)) now
+        | no q ↦ absurd (omega (arith, begins-end bytes 1 (omega arith)))
+      ]

@@ -16,7 +16,7 @@ use Rattle.recording.specs.declared.Dimensions.{Dimensions}
 use Rattle.runs.specs.declared.Cursor.{Cursor}
 use Rattle.runs.specs.declared.Next.the-variants.{Found, None}
 use Rattle.recording.proofs.Changes.{begins-mono, begins-ticks, begins-end}
-use Rattle.runs.proofs.Levels.{shows-ticks, held}
+use Rattle.runs.proofs.Levels.{held}
 
 -- what the search keeps: change i comes next, and no tick from change j up to there has what is wanted
 pub record Seeking (bytes : List ℕ) (channel : ℕ) (level : Level) (from to j : ℕ) (wanted : Bool) (i : ℕ) : Type 0 where
@@ -81,7 +81,7 @@ module _ {bytes : List ℕ} {size : Dimensions} (read : IsRecording bytes size) 
     (cut : end ≡ min to (ticks bytes)) {f : ℕ} (first : Sought bytes channel level from end (cursor .change) true f) where
   -- no change before the end leaves the channel at the level
   pub next-none : end ≤ begins bytes f → NextRun bytes channel level from to cursor None
-  next-none h k p t s = first .passed k (omega arith) (omega (arith, shows-ticks s)) (omega arith) (omega (arith, shows-ticks s)) s
+  next-none h k p t s = first .passed k (omega arith) (omega (arith, s .inside)) (omega arith) (omega (arith, s .inside)) s
 
   -- the run is from the change found first to the first one after it that leaves another level
   pub next-found : {p s e : ℕ} → begins bytes f < end → Sought bytes channel level from end (f + 1) false p
@@ -97,7 +97,7 @@ module _ {bytes : List ℕ} {size : Dimensions} (read : IsRecording bytes size) 
         | no q ↦ held read channel level f k (omega arith) (omega arith) .0 (first .shown h)
         | yes q ↦ past .passed k (omega arith) (omega arith) q (omega arith)
       ];
-      right = λ t w. elim (decLe end (begins bytes p)) [ yes q ↦ over (shows-ticks w) t q | no q ↦ differs (omega arith) w ];
+      right = λ t w. elim (decLe end (begins bytes p)) [ yes q ↦ over (w .inside) t q | no q ↦ differs (omega arith) w ];
     },
     omega (arith, start, begins-mono read (f + 1) p (past .ahead), begins-ticks read p),
   )

@@ -20,10 +20,10 @@ pub record Stands (bytes : List ℕ) (k j : ℕ) : Type 0 where
   pub begun : tick (time bytes j) ≤ k
   pub last : (i : ℕ) → j < i → i ≤ changes bytes → k < tick (time bytes i)
 
--- the channel has the level in tick k, one of the ticks 0 to d - 1, so that a change on tick d has no effect;
--- before the first change all channels are low
-pub data Shows (bytes : List ℕ) (channel : ℕ) (level : Level) (k : ℕ) : Type 0 where
-  reported : {j : ℕ} → k < ticks bytes → Stands bytes k j → levelIn (levels bytes j) channel ≡ level
-      → Shows bytes channel level k
-  unreported : k < ticks bytes → ((i : ℕ) → 0 < i → i ≤ changes bytes → k < tick (time bytes i)) → Low ≡ level
-      → Shows bytes channel level k
+-- The channel has the level in tick k, one of the ticks 0 to d - 1, so that a change on tick d has no effect: a change that stands there leaves
+-- it so. "no channel is high or low before the tick of the first change", and "Without a change record nothing is reported": no change stands.
+pub record Shows (bytes : List ℕ) (channel : ℕ) (level : Level) (k : ℕ) : Type 0 where
+  pub inside : k < ticks bytes
+  pub change : ℕ
+  pub stands : Stands bytes k change
+  pub left : levelIn (levels bytes change) channel ≡ level

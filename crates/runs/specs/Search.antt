@@ -21,9 +21,9 @@ sameLevel High Low = false
 sameLevel Low High = false
 sameLevel Low Low = true
 
--- change j leaves the channel at the level; before the first change, at 0, all channels are low
+-- change j leaves the channel at the level; 0 is the time before the first change, where it has none
 unfoldable pub leavesAt : List ℕ → ℕ → Level → ℕ → Bool
-leavesAt bytes channel level j = cond (eqb j 0) (sameLevel Low level) (sameLevel (levelIn (levels bytes j) channel) level)
+leavesAt bytes channel level j = cond (eqb j 0) false (sameLevel (levelIn (levels bytes j) channel) level)
 
 -- the claim A, or that it fails
 abbrev pub Decides : Bool → Type 0 → Type 0

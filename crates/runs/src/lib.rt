@@ -65,13 +65,13 @@ fn same(a: Level, b: Level) -> bool
     }
 }
 
-// Change j leaves the channel at the level; before the first change it is low.
+// Change j leaves the channel at the level; before the first change it has none.
 fn leaves_at(bytes: &[u8], channel: u8, level: Level, j: usize) -> bool
     requires { ⌜ 8 * j + 7 < length (now bytes) ⌝ }
     ensures { λ r. ⌜ r ≡ leavesAt (now (bytes .entry)) channel level j ⌝ }
 {
     if j == 0 {
-        return same(Level::Low, level);
+        return false;
     }
     same(level_in(recording::levels_of(bytes, j), channel), level)
 }
