@@ -75,6 +75,7 @@ fn tables() -> Vec<(&'static str, Vec<Row>)> {
         ("Rises and falls", events()),
         ("Calls told the rounds left", told_rounds()),
         ("Long lists, few pairs with a time in common", long_lists()),
+        ("Absence", absences()),
     ]
 }
 
@@ -535,6 +536,28 @@ fn events() -> Vec<Row> {
     ]
 }
 
+/// `~a` has four zones for each run, so 30 runs nearly fill a list; the 121 zones that they leave are the
+/// operand of the next row.
+fn absences() -> Vec<Row> {
+    let on_pulses = |drill: &str, runs: u32| {
+        let name = format!("{drill}, {runs} runs");
+        Row::new(name, pulses(runs), drill)
+    };
+    let no_glance = "a&~(~(b&!b).b.~(b&!b))";
+    let without = "(a&~b).c";
+    let ordinary = accepted(ordinary_drive, &[no_glance, without]);
+    vec![
+        on_pulses("~a", 8),
+        on_pulses("~a", 30),
+        on_pulses("~(~a)", 30),
+        on_pulses("~(_|a)", 63),
+        on_pulses("~+a", 63),
+        on_pulses("a.~a", 30),
+        Row::new(no_glance, ordinary.clone(), no_glance),
+        Row::new(without, ordinary, without),
+    ]
+}
+
 /// The same work as in rows of other tables, with the rounds counted down: enough of them, just
 /// enough, and too few.
 fn told_rounds() -> Vec<Row> {
@@ -863,6 +886,19 @@ mod tests {
         assert_eq!(pairs_of(apart), [0]);
         assert_eq!(pairs_of(apart_in_no_order), [0]);
         assert_eq!(pairs_of(in_a_row), [123 + 122 + 122 + 1 + 1; 200]);
+    }
+
+    /// By hand: `~a` has four zones for each run and one more, and no other row too many.
+    #[test]
+    fn absences_have_room() {
+        let zones = absences().into_iter().map(|row| {
+            let (returned, _) = Bench::new(&row).plain();
+            assert!(returned.is_accepted(), "{}", row.name);
+            returned.zones
+        });
+        let zones: Vec<u64> = zones.collect();
+        assert_eq!(zones[..2], [33, 121]);
+        assert_eq!(zones[3..5], [127, 127]);
     }
 
     #[test]

@@ -9,8 +9,10 @@
 //! A cut may be any fraction, so a table with cuts on the grid alone ([`on_grid`]) can be trusted
 //! where it says yes (there are the pieces), but may say no too often: on a grid of thirds, `a.a`
 //! does not fit a stretch of length 1/3, whose cuts lie strictly inside. Nested cuts need finer
-//! and finer fractions, and a star has no largest number of them. [`exact`] gets by with sixths,
-//! for every drill:
+//! and finer fractions, and a star has no largest number of them. An absence turns a no too many into
+//! a yes too many, and where it stands in a composition no grid is fine enough: with its cuts on any
+//! grid, `a.(a&~(a.a))` fits a stretch whose right part is one step of the grid. [`exact`] gets by
+//! with sixths, for every drill:
 //!
 //! *Moving times.* Let h be an increasing bijection of the times, piecewise linear with fractions
 //! for its corners, that fixes 0 and has h(t + 1) = h(t) + 1. It takes fractions to fractions and
@@ -20,7 +22,9 @@
 //! So whatever Definition 3 says of a stretch and its cuts, it says of them moved by h: a stretch
 //! fits a drill just when the moved stretch does. A rise or a fall is a stretch of length 0 at a whole
 //! tick: h leaves it where it is and moves no other stretch there, so events ask for no finer grid
-//! either.
+//! either. It leaves 0 and d where they are, so the stretches of the recording are moved to each
+//! other, and one that does not fit to one that does not: an absence is kept as well, wherever it
+//! stands.
 //!
 //! *Ends on thirds.* Such an h takes one stretch to another when their ends lie in the same ticks
 //! and their fractional parts are ordered alike, with each other and with 0. Two fractional parts
@@ -79,11 +83,53 @@ pub fn on_grid(drill: &Drill, recording: &Recording, parts: usize) -> Table {
 
 /// Parts of a tick with which [`on_grid`] is right in both directions for ends on thirds: with k
 /// cuts in all, a gap of a third between fractional parts may have to hold k different ones. None
-/// for a drill with a star, whose cuts have no largest number.
+/// for a drill with a star, whose cuts have no largest number, nor for one with a cut in an absence in
+/// a composition: the ends of that absence's stretches are cuts themselves, and not on thirds.
 pub fn parts_without_moving(drill: &Drill) -> Option<usize> {
     let stars = drill.count(&|part| matches!(part, Drill::Star(_)));
-    let cuts = drill.count(&|part| matches!(part, Drill::Then(..)));
-    (stars == 0).then_some(3 * (cuts + 1))
+    let absent_cuts = |part: &Drill| matches!(part, Drill::Absent(_)) && cuts(part) > 0;
+    let cuts_in_cuts =
+        |part: &Drill| matches!(part, Drill::Then(..)) && part.count(&absent_cuts) > 0;
+    (stars == 0 && drill.count(&cuts_in_cuts) == 0).then_some(3 * (cuts(drill) + 1))
+}
+
+fn cuts(drill: &Drill) -> usize {
+    drill.count(&|part| matches!(part, Drill::Then(..)))
+}
+
+/// What [`on_grid`] says for certain on any grid, whatever is fine enough.
+///
+/// On a grid a composition or a star may miss cuts, so it has too few stretches and never too many.
+/// An absence turns that round, and every other operator has more stretches where its operands have
+/// more.
+#[derive(Clone, Copy, Debug, PartialEq, Eq)]
+pub struct Certain {
+    /// Where it says yes: every composition and star stands in an even number of absences.
+    pub yes: bool,
+    /// Where it says no: every one stands in an odd number.
+    pub no: bool,
+}
+
+pub fn certain(drill: &Drill) -> Certain {
+    let operands = drill.operands().into_iter().map(certain);
+    let all = operands.fold(
+        Certain {
+            yes: true,
+            no: true,
+        },
+        |one, other| Certain {
+            yes: one.yes && other.yes,
+            no: one.no && other.no,
+        },
+    );
+    match drill {
+        Drill::Then(..) | Drill::Star(_) => Certain { no: false, ..all },
+        Drill::Absent(_) => Certain {
+            yes: all.no,
+            no: all.yes,
+        },
+        _ => all,
+    }
 }
 
 /// The stretches on a grid that lie in some zone of a list.
@@ -118,21 +164,32 @@ pub fn compare(drill: &Drill, recording: &Recording, zones: &[Zone]) -> Result<u
     if ticks > MAX_FINE_TICKS {
         return Ok(fit.size());
     }
-    // A yes found without moving anything needs no argument about grids.
+    // What is certain without moving anything needs no argument about grids.
     let fine = on_grid(drill, recording, FINE_PARTS);
     let fine_listed = of_zones(zones, ticks, FINE_PARTS);
-    report(
-        fine.beyond(&fine_listed),
-        FINE_PARTS,
-        "fits and lies in no zone",
-    )?;
+    let Certain { yes, no } = certain(drill);
+    if yes {
+        report(
+            fine.beyond(&fine_listed),
+            FINE_PARTS,
+            "fits and lies in no zone",
+        )?;
+    }
+    if no {
+        report(
+            fine_listed.beyond(&fine),
+            FINE_PARTS,
+            "lies in a zone and does not fit",
+        )?;
+    }
     // Where this grid is fine enough for all cuts, its no needs none either.
     if parts_without_moving(drill).is_some_and(|parts| parts <= FINE_PARTS) {
         let (fine, fit) = (fine.coarsened(3), fit.coarsened(3));
         report(fit.beyond(&fine), 3, "fits only where cuts are moved")?;
         report(fine.beyond(&fit), 3, "fits only where cuts are not moved")?;
     }
-    Ok(fit.size() + fine.size())
+    let compared_fine = if yes || no { fine.size() } else { 0 };
+    Ok(fit.size() + compared_fine)
 }
 
 /// The same for the bytes of a call that was accepted. Drives of more than so many ticks are passed
@@ -184,6 +241,7 @@ impl Grid {
             Drill::Either(left, right) => self.fits(left).combine(&self.fits(right), |l, r| l | r),
             Drill::Within(inner, band) => self.within(&self.fits(inner), *band),
             Drill::Star(inner) => self.star(self.fits(inner)),
+            Drill::Absent(inner) => self.absent(&self.fits(inner)),
         }
     }
 
@@ -241,6 +299,17 @@ impl Grid {
         for (start, end) in inner.stretches() {
             let length = end - start;
             if inner.has(start, end) && long_enough(length) && short_enough(length) {
+                table.add(start, end);
+            }
+        }
+        table
+    }
+
+    /// All stretches of the recording that do not fit.
+    fn absent(&self, inner: &Table) -> Table {
+        let mut table = self.empty();
+        for (start, end) in inner.stretches() {
+            if !inner.has(start, end) {
                 table.add(start, end);
             }
         }
@@ -431,6 +500,7 @@ mod tests {
             Drill::Star(inner) => {
                 s == e || (s + 1..=e).any(|cut| fits(inner, s, cut) && fits(drill, cut, e))
             }
+            Drill::Absent(inner) => !fits(inner, s, e),
         }
     }
 
@@ -609,15 +679,137 @@ mod tests {
             duration: 50,
             channels: 2,
         };
-        for _ in 0..300 {
+        let (mut tried, mut absent) = (0, 0);
+        while tried < 800 {
             let bytes = random::recording(&mut rng, head, 6);
             let recording = Recording::read(&bytes).unwrap();
             let drill = random::drill(&mut rng, taste);
-            let parts = parts_without_moving(&drill).expect("no stars");
+            let Some(parts) = parts_without_moving(&drill) else {
+                continue;
+            };
             let fine = on_grid(&drill, &recording, parts).coarsened(3);
             let moved = exact(&drill, &recording).coarsened(3);
             assert_eq!(moved, fine, "{drill}");
+            tried += 1;
+            let is_absent = |part: &Drill| matches!(part, Drill::Absent(_)) && cuts(part) > 0;
+            absent += usize::from(drill.count(&is_absent) > 0);
         }
+        assert!(absent > 20, "{absent}");
+    }
+
+    /// Whatever the grid, what is certain on it is so.
+    #[test]
+    fn coarse_grids_are_certain_of_what_they_say() {
+        let mut rng = Rng::new(4, 1);
+        let taste = Taste {
+            leaves: 5,
+            channels: 2,
+            limit: 4,
+            stars: true,
+        };
+        let head = Head {
+            duration: 50,
+            channels: 2,
+        };
+        let mut counts = [0; 4];
+        for _ in 0..600 {
+            let bytes = random::recording(&mut rng, head, 6);
+            let recording = Recording::read(&bytes).unwrap();
+            let drill = random::drill(&mut rng, taste);
+            let Certain { yes, no } = certain(&drill);
+            counts[2 * usize::from(yes) + usize::from(no)] += 1;
+            let exact = exact(&drill, &recording);
+            for parts in [1, 2, 3, 6] {
+                let (coarse, exact) = (on_grid(&drill, &recording, parts), exact.coarsened(parts));
+                assert!(!yes || coarse.beyond(&exact).is_none(), "{drill} {parts}");
+                assert!(!no || exact.beyond(&coarse).is_none(), "{drill} {parts}");
+            }
+        }
+        assert!(counts.iter().all(|&count| count > 15), "{counts:?}");
+    }
+
+    #[test]
+    fn absences_turn_round_what_is_certain() {
+        for (text, yes, no) in [
+            ("a", true, true),
+            ("~a", true, true),
+            ("~(a&~_|a{1,2})", true, true),
+            ("a.a", true, false),
+            ("a*", true, false),
+            ("~(a.a)", false, true),
+            ("~a*", false, true),
+            ("~(~(a.a))", true, false),
+            ("~(a|~a*)", true, false),
+            ("a.~a", true, false),
+            ("(~a)*", true, false),
+            ("a.~(a.a)", false, false),
+            ("a.a&~a*", false, false),
+            ("~(a.~(a.a))", false, false),
+        ] {
+            assert_eq!(certain(&drill(text)), Certain { yes, no }, "{text}");
+        }
+    }
+
+    #[test]
+    fn some_absences_want_no_grid() {
+        for (text, parts) in [
+            ("a", Some(3)),
+            ("a.a", Some(6)),
+            ("~(a.a)", Some(6)),
+            ("a.~a", Some(6)),
+            ("~(a.~a.a)", Some(9)),
+            ("~(a.a)&~(~(a.a)|a)", Some(9)),
+            ("a.~(a.a)", None),
+            ("~(a.~(a.a))", None),
+            ("a.(a&~(a.a))", None),
+            ("a*", None),
+            ("~a*", None),
+        ] {
+            assert_eq!(parts_without_moving(&drill(text)), parts, "{text}");
+        }
+        // On R, the one of these that fits nothing: on a grid its right part is one step long.
+        let bytes = recording_r();
+        let recording = Recording::read(&bytes).unwrap();
+        let nothing = drill("a.(a&~(a.a))");
+        assert_eq!(
+            exact(&nothing, &recording).beyond(&of_zones(&[], 10, 6)),
+            None
+        );
+        for parts in [1, 2, 3, 6, 12] {
+            assert!(on_grid(&nothing, &recording, parts).has(2 * parts, 7 * parts));
+        }
+    }
+
+    /// In sixths of R, where `a` is high from 2 to 7: what does not fit is everything else, and no more
+    /// than what is in the recording.
+    #[test]
+    fn an_absence_is_everything_else() {
+        let all = |text: &str| fitting(&recording_r(), text);
+        let everything = {
+            let starts = 0..=60;
+            starts.flat_map(|s| (s..=60).map(move |e| (s, e)))
+        };
+        for text in [
+            "a", "!a", "-a", "_", "a.a", "a*", "(a|!a)*", "a{<1,2}", "~a",
+        ] {
+            let fits = all(text);
+            let others = everything.clone().filter(|one| !fits.contains(one));
+            assert_eq!(
+                all(&format!("~({text})")),
+                others.collect::<Vec<_>>(),
+                "{text}"
+            );
+        }
+        assert_eq!(all("~a&a"), []);
+        assert_eq!(all("~a|a"), everything.clone().collect::<Vec<_>>());
+        assert_eq!(all("~(~a)"), all("a"));
+        assert_eq!(all("~(a&!a)"), all("~a|a"));
+        assert_eq!(all("~(~(a&!a)&a)"), all("~a"));
+        // Before its first report a channel is neither high nor low.
+        assert!(all("~a&~!a").contains(&(0, 12)) && all("~a&~!a").contains(&(11, 60)));
+        // A part without `a` may have length 0, or lie behind it.
+        assert_eq!(all("a.~a"), all("a|a.!a"));
+        assert_eq!(all("~a&a.~a.a"), []);
     }
 
     /// With a star there is no such grid, but a fine one comes close enough for short drives.
@@ -639,6 +831,12 @@ mod tests {
             "(+a|-a|a)*",
             "(+a.a{0,2}|a{1,1}.-a|!a)*",
             "(!a.+a|+a.a{<1,<2}|a{2,2})*",
+            "(~a)*",
+            "((~a){1,1})*",
+            "(~a{<1,2}&a)*",
+            "~(a{2,2})*",
+            "~(a{<1,<2}|+a)*",
+            "((~-a&!a){0,1})*",
         ] {
             let fine = on_grid(&drill(text), &recording, 60).coarsened(6);
             assert_eq!(exact(&drill(text), &recording), fine, "{text}");

@@ -6,10 +6,11 @@
 //! enough.
 
 use crate::refusal::Refusal;
-use crate::zone::{Range, Zone};
+use crate::zone::{broken, opposite, Range, Zone, WORDS};
 use crate::zones::{List, ZoneList};
 
-/// A list with the puts of the plain matcher, and the pairs of its compositions counted by trying times.
+/// A list with the puts of the plain matcher, the pairs of its compositions counted by trying times, and
+/// the parts of an absence made one by one.
 pub struct TriedList(List);
 
 /// What a composition of two lists went through.
@@ -54,9 +55,33 @@ impl ZoneList for TriedList {
         })
     }
 
+    fn put_outside(&mut self, listed: &TriedList, zone: &Zone) -> Result<(), Refusal> {
+        let sides = || 0..WORDS;
+        for listed in listed.zones() {
+            sides().try_for_each(|side| self.put_if_any(part_outside(listed, zone, side)))?;
+        }
+        Ok(())
+    }
+
     fn copy_from(&mut self, other: &TriedList) {
         self.0.copy_from(&other.0);
     }
+
+    fn clear(&mut self) {
+        self.0.clear();
+    }
+}
+
+/// The part of a zone that breaks another one's limit of this side and keeps those before it, if there
+/// is any: CR 7 of document 02 word by word, each part from the zone's own limits.
+fn part_outside(zone: &Zone, other: &Zone, side: usize) -> Option<Zone> {
+    let mut words = *zone.words();
+    let mut keep = |side: usize, word: i32| words[side] = words[side].min(word);
+    for before in 0..side {
+        keep(before, other.words()[before]);
+    }
+    keep(opposite(side), broken(other.words()[side]));
+    Zone::between(words)
 }
 
 impl TriedList {
@@ -136,6 +161,40 @@ mod tests {
             |time: i64, parts: i64| left.ends().has(time, parts) && right.starts().has(time, parts);
         assert!(!(0..10).any(|time| common(time, 1)) && common(11, 2));
         assert_eq!(touching(&[left], &[right]), 1);
+    }
+
+    /// Parts made one by one are those that the plain matcher goes through, in the same order.
+    #[test]
+    fn parts_are_those_of_the_plain_matcher() {
+        let mut rng = Rng::new(6, 1);
+        let mut listed = vec![Zone::everything(11), Zone::diagonal(11)];
+        let mut counts = [0; WORDS + 1];
+        for _ in 0..5_000 {
+            let start = rng.below(10) as i32;
+            let run = Zone::run(start, start + rng.between(1, 11 - start as u32) as i32);
+            let lo = rng.below(4) as i32;
+            let lo = *rng.pick(&[reached(-lo), not_reached(-lo)]);
+            let other = run.within(lo, None).unwrap_or(run);
+            let zone = *rng.pick(&listed);
+            let sides = 0..WORDS;
+            let one_by_one: Vec<Zone> = sides
+                .filter_map(|side| part_outside(&zone, &other, side))
+                .collect();
+            let mut gone_through = Vec::new();
+            let all = zone.each_part_outside(&other, |part| {
+                gone_through.push(part);
+                Ok::<(), ()>(())
+            });
+            assert_eq!(all, Ok(()));
+            assert_eq!(one_by_one, gone_through, "{zone:?} {other:?}");
+            counts[one_by_one.len()] += 1;
+            // Parts of parts, of all kinds.
+            listed.extend(one_by_one);
+            if listed.len() > 500 {
+                listed.drain(2..250);
+            }
+        }
+        assert!(counts[..6].iter().all(|&count| count > 10), "{counts:?}");
     }
 
     /// Nothing is in common on twelfths that is not on halves.

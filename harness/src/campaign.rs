@@ -131,6 +131,9 @@ fn compare_call(
         let zones = finder::listed(found.returned, outcome.after.answer());
         check_accepted(input, &zones, &found.stars, tally)?;
     }
+    if number == Refusal::ListFull.number() {
+        note_full(input, tally)?;
+    }
     // Each drill with rounds, and some of those without.
     let finished = call.finished(&outcome);
     if finished > 0 || rng.once_in(4) {
@@ -138,21 +141,26 @@ fn compare_call(
         note_told(&call.compare_told(left, &outcome, proved)?, tally);
     }
     if rng.once_in(4) {
-        compare_pairs(&call, &quick.told, tally)?;
+        compare_pairs(&call, &outcome, &quick.told, tally)?;
     }
     Ok(())
 }
 
 /// The pairs that the quick matcher composed, in each finished composition and round, against those
-/// for which trying times finds one in common.
-fn compare_pairs(call: &Call, composed: &[usize], tally: &mut Tally) -> Result<(), String> {
+/// for which trying times finds one in common. What comes of it all must be the same once more.
+fn compare_pairs(
+    call: &Call,
+    plain: &Outcome,
+    composed: &[usize],
+    tally: &mut Tally,
+) -> Result<(), String> {
     // Of a wrong recording there are no lists.
     let ticks = Recording::read(call.recording).map_or(0, |recording| recording.ticks());
     let is_short = ticks <= MAX_BRUTE_TICKS;
     if !is_short && (ticks > MAX_TRIED_TICKS || composed.len() > MAX_TRIED) {
         return Ok(());
     }
-    let (_, tried) = call.with_lists::<TriedList>(None);
+    let tried = call.compare_lists::<TriedList>("the matcher by times", None, plain)?;
     let counted = tried.told.iter().map(|counted| counted.pairs);
     if !counted.eq(composed.iter().copied()) {
         let tried = tried.told;
@@ -352,9 +360,7 @@ fn check_accepted(
     stars: &[Star],
     tally: &mut Tally,
 ) -> Result<(), String> {
-    let recording = Recording::read(&input.recording).map_err(|_| "accepted a wrong recording")?;
-    let drill = Drill::read(&input.drill, recording.channels());
-    let drill = drill.map_err(|_| "accepted a wrong drill")?;
+    let (recording, drill) = read(input)?;
     for star in stars {
         if star.rounds > star.inner as u64 + u64::from(recording.ticks()) {
             return Err(format!("{star:?} took more than n + d rounds"));
@@ -365,6 +371,8 @@ fn check_accepted(
     tally.halves_down += u64::from(times(&input.recording).any(is_half_down));
     tally.rises += u64::from(has_event(&drill, &recording, true));
     tally.falls += u64::from(has_event(&drill, &recording, false));
+    tally.absences += u64::from(has_absence(&drill, &input.recording));
+    tally.absent_absences += u64::from(has_absent_absence(&drill));
     if asks_for_low_or_event(&drill) {
         tally.first_reports.note(recording.first_report());
     }
@@ -372,6 +380,57 @@ fn check_accepted(
         tally.stretches += brute::compare(&drill, &recording, zones)?;
     }
     Ok(())
+}
+
+/// Both inputs of a call that came as far as its lists.
+fn read(input: &Input) -> Result<(Recording<'_>, Drill), String> {
+    let recording = Recording::read(&input.recording).map_err(|_| "took a wrong recording")?;
+    let drill = Drill::read(&input.drill, recording.channels());
+    Ok((recording, drill.map_err(|_| "took a wrong drill")?))
+}
+
+/// A drill that is refused by 10.
+fn note_full(input: &Input, tally: &mut Tally) -> Result<(), String> {
+    let (_, drill) = read(input)?;
+    tally.full_absences += u64::from(has_full_absence(&drill, &input.recording));
+    Ok(())
+}
+
+/// What a part of a drill comes to by itself, unless it is slow.
+fn alone(part: &Drill, recording: &[u8]) -> Option<Returned> {
+    let (mut answer, mut work) = ([0; MAX_ZONES * WORDS], [0; WORK_WORDS]);
+    let text = part.to_string();
+    let drill = text.as_bytes();
+    let found = finder::find_unless_slow(recording, drill, &mut answer, &mut work, MOST_PAIRS);
+    found.map(|found| found.returned)
+}
+
+/// Whether some absence of the drill has something to leave out.
+fn has_absence(drill: &Drill, recording: &[u8]) -> bool {
+    let leaves_out = |part: &Drill| match part {
+        Drill::Absent(inner) => alone(inner, recording).is_some_and(|found| found.zones > 0),
+        _ => false,
+    };
+    drill.count(&leaves_out) > 0
+}
+
+/// Whether some absence of the drill is in the operand of another.
+fn has_absent_absence(drill: &Drill) -> bool {
+    let is_absent = |part: &Drill| matches!(part, Drill::Absent(_));
+    drill.count(&|part| is_absent(part) && part.count(&is_absent) > 1) > 0
+}
+
+/// Whether some absence of the drill has no room for its list though its operand has.
+fn has_full_absence(drill: &Drill, recording: &[u8]) -> bool {
+    let is_full = |part: &Drill| match part {
+        Drill::Absent(inner) => {
+            let numbers =
+                [inner, part].map(|part| alone(part, recording).map(|found| found.number));
+            numbers == [Some(0), Some(Refusal::ListFull.number())]
+        }
+        _ => false,
+    };
+    drill.count(&is_full) > 0
 }
 
 /// Whether some event of the drill, a rise or a fall, is there in the recording, so that its list is
@@ -420,7 +479,7 @@ fn lengths(lent: &Lent) -> String {
 #[cfg(test)]
 mod tests {
     use super::*;
-    use crate::examples::{low_start_r, recording, recording_r};
+    use crate::examples::{low_start_r, pulses, recording, recording_r};
     use crate::recording::tick;
 
     #[test]
@@ -461,6 +520,29 @@ mod tests {
         assert_eq!(counted(&recording_r(), "+a.-a"), [false, true]);
         let from_the_start = recording(100, 1, &[(0, 1), (50, 0)]);
         assert_eq!(counted(&from_the_start, "+a|-a"), [false, true]);
+    }
+
+    /// On R, `a` has a zone and no rise, and with 32 runs `~a` has no room.
+    #[test]
+    fn absences_count_where_they_leave_something_out() {
+        let counted = |bytes: &[u8], text: &str| {
+            let drill = Drill::read(text.as_bytes(), 1).expect(text);
+            let leaves_out = has_absence(&drill, bytes);
+            let is_full = has_full_absence(&drill, bytes);
+            [leaves_out, has_absent_absence(&drill), is_full]
+        };
+        let on_r = |text: &str| counted(&recording_r(), text);
+        assert_eq!(on_r("a.!a"), [false, false, false]);
+        assert_eq!(on_r("(a.~a)*"), [true, false, false]);
+        assert_eq!(on_r("~+a|a"), [false, false, false]);
+        assert_eq!(on_r("~a&~a"), [true, false, false]);
+        assert_eq!(on_r("~(~+a)"), [true, true, false]);
+        assert_eq!(on_r("a|~(a.(~a)*)"), [true, true, false]);
+        let full = |text: &str| counted(&pulses(32), text);
+        assert_eq!(full("a|~a"), [true, false, true]);
+        assert_eq!(full("~(_|a)"), [true, false, false]);
+        // The operand has no room itself.
+        assert_eq!(counted(&pulses(129), "~a"), [false, false, false]);
     }
 
     #[test]

@@ -7,10 +7,12 @@
 //! drill, the words of the answer and of the work buffer, the zones that `front` is told), then the
 //! recording and the drill. Before the call, word i of either buffer is i.
 
+use crate::absence;
 use crate::brute;
 use crate::examples::{late_pulses, low_start_r, pulses, recording, recording_r};
 use crate::finder::{find, front, listed, Returned, WORK_WORDS};
 use crate::first_reports;
+use crate::named_drills::NamedDrill;
 use crate::recording::{MAX_LENGTH, RECORD};
 use crate::sheet;
 use crate::zone::WORDS;
@@ -199,6 +201,10 @@ pub fn all() -> Vec<Case> {
         events_refused(),
         before_the_first_report(),
         crowded_from_the_first_report(),
+        absences_by_hand(),
+        absences(),
+        absences_at_the_edges(),
+        absences_refused(),
     ];
     groups.into_iter().flatten().collect()
 }
@@ -745,9 +751,18 @@ fn events_refused() -> Vec<Case> {
     cases
 }
 
-/// The drills whose sheets are known by hand.
+/// The drills about the first report whose sheets are known by hand.
 fn before_the_first_report() -> Vec<Case> {
-    let named = first_reports::all().into_iter();
+    named(first_reports::all())
+}
+
+/// The drills about absence whose sheets are known by hand.
+fn absences_by_hand() -> Vec<Case> {
+    named(absence::all())
+}
+
+fn named(drills: Vec<NamedDrill>) -> Vec<Case> {
+    let named = drills.into_iter();
     named
         .map(|named| Case::new(named.recording, named.drill))
         .collect()
@@ -761,6 +776,75 @@ fn crowded_from_the_first_report() -> Vec<Case> {
         Case::new(pulses(128), "!a"),
         Case::new(late_pulses(129), "+a"),
     ]
+}
+
+/// Absences of every operator, in every operator, and in each other.
+fn absences() -> Vec<Case> {
+    let on_two = "~(a.b) ~a.~b ~(a&b) ~a|~b a.~(b.a) (a.~b)* ~(a.b)* (~a.b{0,2})* ((~a|b){<0,2})* ~(~(a.b)) \
+                  ~((a|b){1,2}.!a)*.b !a&~(+a|-b) (~(+a|-a|b))* ~a{<1,<2}.~b{2,} ~(a{1,}|~b{0,3})";
+    let on_overlapping = "~((a|b){1,1})* (~(a|b))* ((~a){0,<1}|b{1,1})* (~a.a|~b.b)* ~(~(~(~b)))";
+    let on_r =
+        "~a.!a !a.~a a.~!a ~(a.a) ~(a{1,2})* (~a{1,2})* (~a{1,2}&a)* ((~a){0,1})* ~(~a{1,2}).a \
+                (~-a)* ~(-a|_)* (~(~a)|!a)* ((~a|a){3,3})* (((~a){2,2})*|~_{1,1}){0,9}";
+    let mut cases: Vec<Case> = on_r.split_whitespace().map(Case::on_r).collect();
+    for drill in on_two.split_whitespace() {
+        cases.push(Case::new(two(), drill));
+    }
+    for drill in on_overlapping.split_whitespace() {
+        cases.push(Case::new(overlapping(), drill));
+    }
+    cases
+}
+
+/// As deep, as long and as full as an absence may be, with buffers of just the right length and less.
+fn absences_at_the_edges() -> Vec<Case> {
+    let nested = |tildes: usize| format!("{}a{}", "~(".repeat(tildes), ")".repeat(tildes));
+    let brackets = |inner: &str| format!("{}{inner}{}", "(".repeat(126), ")".repeat(126));
+    vec![
+        Case::on_r(nested(15)),
+        Case::on_r(nested(16)),
+        Case::on_r(format!("~a{}", "*".repeat(14))),
+        Case::on_r(format!("(~a){}", "*".repeat(15))),
+        Case::on_r(format!("{}a", "~a.".repeat(14))),
+        Case::on_r(format!("{}~a", "~a.".repeat(15))),
+        // 255 bytes and 256.
+        Case::on_r(format!("~{}", brackets("!a"))),
+        Case::on_r(format!("~{}", brackets("!a)"))),
+        // Five zones, and what comes before and after 11.
+        Case::on_r("~a").answer(30).work(WORK_WORDS),
+        Case::on_r("~a").answer(29),
+        Case::on_r("~(a|~a)").answer(0),
+        Case::on_r("~a").work(WORK_WORDS - 1),
+        Case::on_r("~~a").work(0).answer(0),
+        Case::on_r("~a").told(6).answer(35),
+        // The zones of an absence of 30 runs as an operand.
+        Case::new(pulses(30), "~(~a)"),
+        Case::new(late_pulses(8), "(~a)*"),
+        Case::new(longest(), "~(!a{1,}.!a)"),
+        Case::new(longest(), "~!a{<500000,999999}"),
+    ]
+}
+
+/// Texts with a `~` that are refused, by its place or by something else, and several causes at once.
+fn absences_refused() -> Vec<Case> {
+    let stars = "*".repeat(15);
+    let mut cases: Vec<Case> = ["~ a", " ~a", "~a ", "~\n", "~a\n", "a. ~a"]
+        .into_iter()
+        .map(Case::on_r)
+        .collect();
+    for byte in [0x00, 0x7D, 0x7F, 0xAC, 0xFE, 0xFF] {
+        // Bytes beside 126, and others that are no `~`.
+        cases.push(Case::on_r(vec![byte, b'a']));
+    }
+    cases.extend([
+        Case::on_r(format!("~b{{2,1}}{stars}~")),
+        Case::on_r(format!("~a{{2,1}}{stars}.~b")),
+        Case::on_r(format!("~a{{2,1}}{stars}")),
+        Case::on_r(format!("~a{stars}")),
+        Case::new(recording(100, 15, &[(20, 1)]), "~a|~p"),
+        Case::new(vec![0; RECORD], "~~a"),
+    ]);
+    cases
 }
 
 #[cfg(test)]

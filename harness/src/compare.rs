@@ -71,16 +71,26 @@ impl Call<'_> {
         (outcome, found)
     }
 
-    /// The quick matcher must return the same and leave the same as the plain one. Gives what it
-    /// finds, the pairs that it composes among it.
+    /// A finder with lists of any kind must return the same and leave the same as the plain matcher.
+    /// Gives what it finds.
+    pub fn compare_lists<L: ZoneList>(
+        &self,
+        finder: &str,
+        left: Option<u64>,
+        plain: &Outcome,
+    ) -> Result<Found<L::Told>, String> {
+        let (outcome, found) = self.with_lists::<L>(left);
+        outcome.check_same(finder, plain)?;
+        Ok(found)
+    }
+
+    /// The same for the quick matcher, with the pairs that it composes among what it finds.
     pub fn compare_quick(
         &self,
         left: Option<u64>,
         plain: &Outcome,
     ) -> Result<Found<usize>, String> {
-        let (quick, found) = self.with_lists::<QuickList>(left);
-        quick.check_same("quick", plain)?;
-        Ok(found)
+        self.compare_lists::<QuickList>("quick", left, plain)
     }
 
     /// The returned number of the proved library, the rounds left and both buffers afterwards.

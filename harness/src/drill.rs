@@ -47,6 +47,8 @@ pub enum Drill {
     Within(Box<Drill>, Band),
     /// `*`
     Star(Box<Drill>),
+    /// `~`: the stretches that the operand does not fit.
+    Absent(Box<Drill>),
 }
 
 impl Drill {
@@ -84,7 +86,7 @@ impl Drill {
             Drill::Then(left, right) | Drill::Both(left, right) | Drill::Either(left, right) => {
                 vec![left, right]
             }
-            Drill::Within(inner, _) | Drill::Star(inner) => vec![inner],
+            Drill::Within(inner, _) | Drill::Star(inner) | Drill::Absent(inner) => vec![inner],
         }
     }
 
@@ -130,7 +132,7 @@ impl Drill {
             Drill::Then(left, right) => {
                 left.write(Level::Sequence, extra, text);
                 text.push('.');
-                right.write(Level::Repeat, extra, text);
+                right.write(Level::Factor, extra, text);
             }
             Drill::Both(left, right) => {
                 left.write(Level::Conjunction, extra, text);
@@ -150,6 +152,11 @@ impl Drill {
                 inner.write(Level::Repeat, extra, text);
                 text.push('*');
             }
+            // What follows the `~` is its operand, repeats included; another `~` needs brackets.
+            Drill::Absent(inner) => {
+                text.push('~');
+                inner.write(Level::Repeat, extra, text);
+            }
         }
         text.push_str(&")".repeat(pairs));
     }
@@ -159,6 +166,7 @@ impl Drill {
             Drill::Either(..) => Level::Alternative,
             Drill::Both(..) => Level::Conjunction,
             Drill::Then(..) => Level::Sequence,
+            Drill::Absent(_) => Level::Factor,
             Drill::Within(..) | Drill::Star(_) => Level::Repeat,
             Drill::Empty | Drill::Letter { .. } | Drill::Event { .. } => Level::Primary,
         }
@@ -171,6 +179,7 @@ enum Level {
     Alternative,
     Conjunction,
     Sequence,
+    Factor,
     Repeat,
     Primary,
 }
@@ -253,7 +262,7 @@ impl Reader<'_> {
     }
 
     fn sequence(&mut self) -> Option<Drill> {
-        self.joined(b'.', Reader::repeat, Drill::Then)
+        self.joined(b'.', Reader::factor, Drill::Then)
     }
 
     fn joined(
@@ -267,6 +276,14 @@ impl Reader<'_> {
             drill = node(Box::new(drill), Box::new(operand(self)?));
         }
         Some(drill)
+    }
+
+    /// A repeat, or `~` and a repeat.
+    fn factor(&mut self) -> Option<Drill> {
+        if self.take(b'~') {
+            return self.repeat().map(|drill| Drill::Absent(Box::new(drill)));
+        }
+        self.repeat()
     }
 
     fn repeat(&mut self) -> Option<Drill> {
@@ -412,6 +429,12 @@ mod tests {
             "+a.a{0,3}",
             "(+a|-b)*",
             "!a.+a.(a&-b){0,0}",
+            "~a",
+            "~!a*",
+            "~(~a)",
+            "(~a){1,2}*",
+            "~(~+a|_){1,<2}.~(a.~b).c&~p",
+            "a.(~a.b)",
         ] {
             assert_eq!(read(text).to_string(), text);
             let bracketed = read(text).text(&mut || 1);
@@ -487,6 +510,66 @@ mod tests {
                 assert_eq!(refused(&format!("-{beyond}&-a"), channels), Some(6));
             }
         }
+    }
+
+    #[test]
+    fn a_tilde_binds_between_a_dot_and_a_repeat() {
+        let absent = |text: &str| Drill::Absent(Box::new(read(text)));
+        for operand in [
+            "a", "!a", "+a", "-a", "_", "a*", "a{1,2}", "a{1,2}*", "a*{<1,}", "(a)", "(a|b)",
+            "(a.b)*", "(~a)",
+        ] {
+            let text = format!("~{operand}");
+            assert_eq!(read(&text), absent(operand), "{text}");
+            assert_eq!(read(&text).depth(), read(operand).depth() + 1, "{text}");
+            assert_eq!(read(&format!("(({text}))")), absent(operand), "{text}");
+        }
+        // It takes the whole repeat, and nothing beyond it.
+        assert_eq!(read("~a*"), read("~(a*)"));
+        assert_ne!(read("~a*"), read("(~a)*"));
+        assert_ne!(read("~a{1,2}"), read("(~a){1,2}"));
+        assert_eq!(read("a.~b"), read("a.(~b)"));
+        assert_eq!(read("~a.b"), read("(~a).b"));
+        assert_ne!(read("~a.b"), read("~(a.b)"));
+        assert_eq!(read("~a.~b.c"), read("((~a).(~b)).c"));
+        assert_eq!(read("~a&~b|~c"), read("((~a)&(~b))|(~c)"));
+        assert_eq!(read("~a|b&c.d"), read("(~a)|(b&(c.d))"));
+    }
+
+    #[test]
+    fn a_tilde_stands_directly_before_a_repeat_and_nowhere_else() {
+        for text in [
+            "~", "~~a", "~~~a", "~~(a)", "(~~a)", "a.~~b", "~~", "!~a", "+~a", "-~a", "!~", "a~",
+            "a~b", "a~a", "_~", "a*~", "a~*", "a{1,2}~", "(a)~", "(a)~b", "~a~", "~a~b", "(~)",
+            "(~)a", "~()", "~(~)", "~(a", "~a)", "~)", "~(", "~*", "~*a", "~{1,2}", "~{1,2}a",
+            "~.a", "~&a", "~|a", "a.~", "a&~", "a|~", "~!", "~+", "~-", "~!!a", "~ab", "~A", "~q",
+            "~1", "~ a", " ~a", "~a ", "~\n", "~a\n", "a{~1,2}", "a{1~,2}", "a{1,~2}", "a{1,2~}",
+            "a{~,2}", "~é", "¬a",
+        ] {
+            assert_eq!(refused(text, 16), Some(5), "{text}");
+        }
+    }
+
+    #[test]
+    fn an_absence_is_checked_as_its_operand_is() {
+        for text in ["~b", "~!b", "~+b", "a.~(a|b)", "~(~p)"] {
+            assert_eq!(refused(text, 1), Some(6), "{text}");
+        }
+        for text in ["~a{2,1}", "(~a){2,1}", "~(~a{<2,2})", "~a{1000001,}"] {
+            assert_eq!(refused(text, 1), Some(7), "{text}");
+        }
+        let nested = |tildes: usize| format!("{}a{}", "~(".repeat(tildes), ")".repeat(tildes));
+        assert_eq!(refused(&nested(15), 1), None);
+        assert_eq!(refused(&nested(16), 1), Some(8));
+        assert_eq!(refused(&format!("~a{}", "*".repeat(14)), 1), None);
+        assert_eq!(refused(&format!("~a{}", "*".repeat(15)), 1), Some(8));
+        assert_eq!(refused(&format!("(~a){}", "*".repeat(15)), 1), Some(8));
+        // Each check covers the whole text before the next.
+        assert_eq!(refused("~b{2,1}.~~a", 1), Some(5));
+        assert_eq!(refused("~a{2,1}.~b", 1), Some(6));
+        assert_eq!(refused(&format!("~a{{2,1}}{}", "*".repeat(15)), 1), Some(7));
+        assert_eq!(refused(&format!("~{}", "(".repeat(255)), 1), Some(4));
+        assert_eq!(refused(&format!("~{}", "(".repeat(254)), 1), Some(5));
     }
 
     #[test]

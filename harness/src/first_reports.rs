@@ -2,13 +2,7 @@
 //! change no channel is high or low. The sheet of each drill is worked out by hand.
 
 use crate::examples::{low_start_r, recording, recording_r};
-
-/// A drill on a drive, and all that `marks` prints for it.
-pub struct NamedDrill {
-    pub recording: Vec<u8>,
-    pub drill: String,
-    pub sheet: String,
-}
+use crate::named_drills::{table, NamedDrill};
 
 pub fn all() -> Vec<NamedDrill> {
     let groups = [
@@ -21,48 +15,6 @@ pub fn all() -> Vec<NamedDrill> {
         several_channels(),
     ];
     groups.into_iter().flatten().collect()
-}
-
-/// The drills on one drive of so many ticks, a line for each: the drill, its rounds, and its zones in
-/// their order.
-fn table(recording: &[u8], ticks: u32, lines: &str) -> Vec<NamedDrill> {
-    let lines = lines.lines().map(|line| line.split_whitespace());
-    let lines = lines.map(Vec::from_iter).filter(|words| !words.is_empty());
-    lines
-        .map(|words| {
-            let [drill, rounds, zones @ ..] = &words[..] else {
-                panic!("{words:?} is no line of a table");
-            };
-            let count = zones.len();
-            let zones: String = zones.iter().map(|word| zone_line(word, ticks)).collect();
-            NamedDrill {
-                recording: recording.to_vec(),
-                drill: drill.to_string(),
-                sheet: format!("zones {count} rounds {rounds}\n{zones}"),
-            }
-        })
-        .collect()
-}
-
-/// The line of a zone: `2-7` is the run from 2 to 7, `7` the moment 7, `diagonal` every moment, and
-/// any other zone has its ranges as in the sheet, with a `/` between them.
-fn zone_line(word: &str, ticks: u32) -> String {
-    let number = |word: &str| word.parse::<u32>().expect("a tick");
-    let ranges = if word == "diagonal" {
-        format!("[0,{ticks}]/[0,{ticks}]/[0,0]")
-    } else if word.contains('/') {
-        word.into()
-    } else if let Some((start, end)) = word.split_once('-') {
-        let length = number(end) - number(start);
-        format!("[{start},{end})/({start},{end}]/(0,{length}]")
-    } else {
-        let at = number(word);
-        format!("[{at},{at}]/[{at},{at}]/[0,0]")
-    };
-    let [start, end, length] = Vec::from_iter(ranges.split('/'))[..] else {
-        panic!("`{word}` is no zone");
-    };
-    format!("start {start} end {end} length {length}\n")
 }
 
 /// On R, `a` is high from 2 to 7 and low from 7 to 10. The first round of `(a|!a)*` adds the stretches
@@ -191,35 +143,10 @@ fn several_channels() -> Vec<NamedDrill> {
 #[cfg(test)]
 mod tests {
     use super::*;
-    use crate::finder::{find, WORK_WORDS};
-    use crate::sheet;
-    use crate::zone::WORDS;
-    use crate::zones::MAX_ZONES;
+    use crate::named_drills::check;
 
     #[test]
     fn every_drill_has_its_sheet() {
-        for named in all() {
-            let mut answer = [7; MAX_ZONES * WORDS];
-            let (recording, drill) = (&named.recording, named.drill.as_bytes());
-            let returned = find(recording, drill, &mut answer, &mut [7; WORK_WORDS]);
-            let sheet = sheet::text(returned, &answer);
-            assert_eq!(sheet, named.sheet, "{}", named.drill);
-        }
-    }
-
-    #[test]
-    fn zones_are_written_as_in_the_sheet() {
-        let lines = [
-            ("2-7", "start [2,7) end (2,7] length (0,5]\n"),
-            ("7", "start [7,7] end [7,7] length [0,0]\n"),
-            ("diagonal", "start [0,10] end [0,10] length [0,0]\n"),
-            (
-                "[2,7)/(7,10]/(0,8]",
-                "start [2,7) end (7,10] length (0,8]\n",
-            ),
-        ];
-        for (word, line) in lines {
-            assert_eq!(zone_line(word, 10), line);
-        }
+        check(all());
     }
 }

@@ -49,7 +49,7 @@ pub fn any(rng: &mut Rng) -> Input {
 }
 
 /// Bytes that a damaged drill may have anywhere.
-const DRILL_BYTES: &[u8] = b"_abcp!+-()|&.*{},<0123456789q \n\xFF";
+const DRILL_BYTES: &[u8] = b"_abcp!+-~()|&.*{},<0123456789q \n\xFF";
 
 /// A sheet of any form: no line to ten of them, now and then an empty one, a carriage return or no
 /// last newline, and lines of all lengths.
@@ -140,7 +140,7 @@ fn any_drill(rng: &mut Rng, channels: u8) -> Vec<u8> {
     let mut drill = match rng.below(16) {
         0 => deep_drill(rng, channels),
         1 => outside_drill(rng, channels),
-        2 => once_or_twice_a_run(rng).0.into(),
+        2 => some_for_each_run(rng).0.into(),
         3..7 => star_of_pieces(rng, channels),
         _ => small_drill(rng, channels),
     };
@@ -288,12 +288,13 @@ fn deep_drill(rng: &mut Rng, channels: u8) -> Vec<u8> {
     };
     let mut drill = random::leaf(rng, taste);
     for _ in 1..rng.between(14, 18) {
-        drill = match rng.below(6) {
+        drill = match rng.below(7) {
             0 => Drill::Star(Box::new(drill)),
             1 => Drill::Within(Box::new(drill), random::band(rng, taste.limit)),
+            2 => Drill::Absent(Box::new(drill)),
             k => {
                 let leaf = random::leaf(rng, taste);
-                let (left, right) = if k < 4 { (drill, leaf) } else { (leaf, drill) };
+                let (left, right) = if k < 5 { (drill, leaf) } else { (leaf, drill) };
                 random::joined(rng, left, right)
             }
         };
@@ -311,8 +312,8 @@ fn outside(rng: &mut Rng) -> Input {
     }
 }
 
-/// Letters, events and bands that are likely to be wrong, numbers of any length, bounds reached or
-/// not.
+/// Letters, events, absences and bands that are likely to be wrong, numbers of any length, bounds reached
+/// or not.
 fn outside_drill(rng: &mut Rng, channels: u8) -> Vec<u8> {
     let taste = Taste {
         leaves: 3,
@@ -321,7 +322,7 @@ fn outside_drill(rng: &mut Rng, channels: u8) -> Vec<u8> {
         stars: true,
     };
     let drill = random::drill(rng, taste);
-    let text = match rng.below(8) {
+    let text = match rng.below(10) {
         0 => {
             let (lo, hi) = (digits(rng), digits(rng));
             format!("({drill}){{{}{lo},{}{hi}}}", less(rng), less(rng))
@@ -335,6 +336,8 @@ fn outside_drill(rng: &mut Rng, channels: u8) -> Vec<u8> {
         3 | 4 => format!("({drill}){}", near_band(rng)),
         5 => format!("{}.({drill})", near_event(rng, taste.channels)),
         6 => format!("({drill})*&{}", near_event(rng, taste.channels)),
+        7 => format!("{}.({drill})", near_absence(rng, taste)),
+        8 => format!("({drill})|{}", near_absence(rng, taste)),
         _ => {
             let (lo, hi) = (rng.between(0, 4), rng.between(0, 4));
             let band = Band {
@@ -375,14 +378,28 @@ fn near_band(rng: &mut Rng) -> String {
 /// after its letter, before another sign or a bracket, or before nothing.
 fn near_event(rng: &mut Rng, channels: u8) -> String {
     let channel = rng.below(channels.into()) as u8;
-    let mut text = random::event(rng, channel).to_string();
+    let event = random::event(rng, channel).to_string();
+    let bytes = ['+', '-', '!', '(', ')', '_', '*', '.', '|', 'a', ' '];
+    near(rng, event, &bytes)
+}
+
+/// A right absence with a byte or two put in or taken out anywhere: a `~` may come to stand twice, with
+/// brackets between or without, after its operand, behind a `!` or a sign, or before nothing.
+fn near_absence(rng: &mut Rng, taste: Taste) -> String {
+    let taste = Taste { leaves: 1, ..taste };
+    let absence = Drill::Absent(Box::new(random::drill(rng, taste))).to_string();
+    let bytes = ['~', '~', '~', '~', '!', '+', '(', ')', '_', '*', '.', '|'];
+    near(rng, absence, &bytes)
+}
+
+/// A text with a byte or two put in, of those given, or taken out anywhere.
+fn near(rng: &mut Rng, mut text: String, bytes: &[char]) -> String {
     for _ in 0..rng.between(1, 2) {
         let at = rng.below(text.len() as u64 + 1) as usize;
         if at < text.len() && rng.once_in(3) {
             text.remove(at);
         } else {
-            let bytes = ['+', '-', '!', '(', ')', '_', '*', '.', '|', 'a', ' '];
-            text.insert(at, *rng.pick(&bytes));
+            text.insert(at, *rng.pick(bytes));
         }
     }
     text
@@ -408,13 +425,14 @@ fn digits(rng: &mut Rng) -> String {
     }
 }
 
-/// About as many runs, or runs and events, as a list has room for.
+/// About as many runs, or runs and events, or parts outside them, as a list has room for.
 fn crowded(rng: &mut Rng) -> Input {
-    let (drill, zones_a_run) = once_or_twice_a_run(rng);
+    let (drill, zones_a_run) = some_for_each_run(rng);
     // A few runs are lost where both their changes are on one tick.
     let runs = match zones_a_run {
         1 => rng.between(126, 138),
-        _ => rng.between(64, 70),
+        2 => rng.between(62, 70),
+        _ => rng.between(30, 36),
     };
     Input {
         recording: many_runs(rng, runs),
@@ -422,8 +440,8 @@ fn crowded(rng: &mut Rng) -> Input {
     }
 }
 
-/// A drill with a zone or two for each run of `a`, and how many of these it is.
-fn once_or_twice_a_run(rng: &mut Rng) -> (&'static str, u32) {
+/// A drill with a zone, or two, or four for each run of `a`, and how many of these it is.
+fn some_for_each_run(rng: &mut Rng) -> (&'static str, u32) {
     let once_a_run = [
         "a",
         "!a",
@@ -467,11 +485,22 @@ fn once_or_twice_a_run(rng: &mut Rng) -> (&'static str, u32) {
         "(+a|!a)*",
         "(+a.a)|a.-a",
         "(+a|-a)&_",
+        "~+a",
+        "~-a",
+        "~(_|a)",
+        "~(_|!a)",
+        "~(_|+a.a)",
+        "~+a&~_",
     ];
-    if rng.once_in(4) {
-        (*rng.pick(&twice_a_run), 2)
-    } else {
-        (*rng.pick(&once_a_run), 1)
+    // Four zones: a quarter of them. With the moments behind, the list is longest before the last zone.
+    let four_times_a_run = [
+        "~a", "~!a", "~(a|_)", "~a*", "~a{<0,}", "(~a)*", "~a&_", "~a|a", "a.~a", "~(~a)",
+        "~(a.a)", "~(a|-a)",
+    ];
+    match rng.below(8) {
+        0 | 1 => (*rng.pick(&four_times_a_run), 4),
+        2 | 3 => (*rng.pick(&twice_a_run), 2),
+        _ => (*rng.pick(&once_a_run), 1),
     }
 }
 
@@ -605,8 +634,8 @@ mod tests {
                 (FirstReport::AtOnce, 130),
                 (FirstReport::Late, 40),
                 (FirstReport::OnTheLastTick, 10),
-                (FirstReport::OnTickD, 5),
-                (FirstReport::Never, 10),
+                (FirstReport::OnTickD, 3),
+                (FirstReport::Never, 5),
             ] {
                 let what = format!("{first:?}");
                 often(least, &what, &|read| read.first_report() == first);
@@ -676,6 +705,91 @@ mod tests {
         }
         assert!(fitting > 10, "{fitting}");
         assert!(refused > 10, "{refused}");
+    }
+
+    /// Texts beside an absence are read and refused often enough.
+    #[test]
+    fn tildes_come_up_right_and_wrong() {
+        let mut rng = Rng::new(1, 11);
+        let taste = Taste {
+            leaves: 1,
+            channels: 3,
+            limit: 12,
+            stars: true,
+        };
+        let (mut right, mut of_no_form, mut twice) = (0, 0, 0);
+        for _ in 0..1_000 {
+            let text = near_absence(&mut rng, taste);
+            let drill = Drill::read(text.as_bytes(), 3);
+            of_no_form += u32::from(drill == Err(Refusal::DrillForm));
+            right += u32::from(drill.is_ok_and(|drill| drill.count(&is_absent) > 0));
+            twice += u32::from(text.contains("~~"));
+        }
+        assert!(right > 50, "{right}");
+        assert!(of_no_form > 500, "{of_no_form}");
+        assert!(twice > 100, "{twice}");
+    }
+
+    fn is_absent(part: &Drill) -> bool {
+        matches!(part, Drill::Absent(_))
+    }
+
+    /// Absences stand in every kind of operand, and hold every kind.
+    #[test]
+    fn absences_come_up_everywhere() {
+        let mut rng = Rng::new(1, 12);
+        let drills: Vec<Drill> = (0..4_000)
+            .filter_map(|_| Drill::read(&small(&mut rng).drill, 3).ok())
+            .collect();
+        let often = |what: &str, meets: &dyn Fn(&Drill) -> bool| {
+            let count = drills.iter().filter(|drill| drill.count(meets) > 0).count();
+            assert!(count > 60, "{what}: {count}");
+        };
+        let has_absent = |part: &Drill| part.operands().into_iter().any(is_absent);
+        let holds = |part: &Drill, kind: &dyn Fn(&Drill) -> bool| {
+            is_absent(part) && part.operands().into_iter().any(kind)
+        };
+        type Kind = fn(&Drill) -> bool;
+        let kinds: [(&str, Kind); 5] = [
+            ("*", |part| matches!(part, Drill::Star(_))),
+            (".", |part| matches!(part, Drill::Then(..))),
+            ("&", |part| matches!(part, Drill::Both(..))),
+            ("|", |part| matches!(part, Drill::Either(..))),
+            ("{}", |part| matches!(part, Drill::Within(..))),
+        ];
+        for (name, kind) in kinds {
+            often(&format!("~ in {name}"), &|part| {
+                kind(part) && has_absent(part)
+            });
+            often(&format!("{name} in ~"), &|part| holds(part, &kind));
+        }
+        often("~ in ~", &|part| holds(part, &is_absent));
+        often("~ of a letter", &|part| {
+            holds(part, &|part| matches!(part, Drill::Letter { .. }))
+        });
+        often("~ of an event", &|part| {
+            holds(part, &|part| matches!(part, Drill::Event { .. }))
+        });
+    }
+
+    /// Lists of absences just fill their room, or nearly, and just do not.
+    #[test]
+    fn absences_come_up_at_the_edge_of_a_list() {
+        let mut rng = Rng::new(1, 13);
+        let absences = |drill: &[u8]| matches!(drill, b"~a" | b"~!a" | b"~+a" | b"~-a" | b"~(_|a)");
+        let (mut fitting, mut refused) = (0, 0);
+        for _ in 0..4_000 {
+            let Input { recording, drill } = crowded(&mut rng);
+            if !absences(&drill) {
+                continue;
+            }
+            let mut answer = [0; 768];
+            let returned = find(&recording, &drill, &mut answer, &mut [0; WORK_WORDS]);
+            fitting += u32::from(returned.zones >= 124);
+            refused += u32::from(returned.number == Refusal::ListFull.number());
+        }
+        assert!(fitting > 20, "{fitting}");
+        assert!(refused > 20, "{refused}");
     }
 
     /// Sheets are of the right form often enough, and of each wrong one.

@@ -9,6 +9,7 @@
 
 #![deny(unsafe_code)]
 
+pub mod absence;
 pub mod bench;
 pub mod brute;
 pub mod by_times;
@@ -24,6 +25,7 @@ pub mod lent;
 pub mod lesson;
 pub mod marks;
 pub mod named_calls;
+pub mod named_drills;
 pub mod named_sheets;
 pub mod program;
 pub mod proved;

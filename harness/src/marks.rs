@@ -4,7 +4,7 @@
 //! the drill is dropped, and a file that is missing counts as empty. Every file that is too long has
 //! a front that would be accepted, so that a program that reads less of it gives itself away.
 
-use crate::examples::{bracketed, one_change_too_many, recording, recording_r};
+use crate::examples::{bracketed, one_change_too_many, pulses, recording, recording_r};
 use crate::finder::{find, WORK_WORDS};
 use crate::program::Program;
 use crate::recording::{MAX_LENGTH, RECORD};
@@ -82,6 +82,7 @@ fn all() -> Vec<Case> {
     let groups = [
         recordings(),
         first_reports(),
+        absences(),
         drills(),
         newlines(),
         missing(),
@@ -112,6 +113,21 @@ fn first_reports() -> Vec<Case> {
         Case::new("all from tick 2 on", &recording_r(), b"(a|!a)*", 0),
         Case::new("no change", &recording(100, 1, &[]), b"!a|_", 0),
         Case::new("a change on tick d alone", &on_tick_d, b"!a|_", 0),
+    ]
+}
+
+/// Absences, and a `~` where none may stand.
+fn absences() -> Vec<Case> {
+    let on_r =
+        |name, drill: &str, number| Case::new(name, &recording_r(), drill.as_bytes(), number);
+    vec![
+        on_r("an absence", "~a\n", 0),
+        on_r("an absence of an absence", "~(~a)", 0),
+        on_r("two tildes", "~~a\n", 5),
+        on_r("a tilde alone", "~\n", 5),
+        Case::new("no change, an absence", &recording(100, 1, &[]), b"~a", 0),
+        Case::new("an absence of 31 runs", &pulses(31), b"~a\n", 0),
+        Case::new("an absence of 32 runs", &pulses(32), b"~a\n", 10),
     ]
 }
 

@@ -2,7 +2,7 @@
 //! hand, and then asked of the plain matcher and of the proved library.
 
 use crate::compare::Call;
-use crate::examples::{recording, recording_r, spending_drive};
+use crate::examples::{pulses, recording, recording_r, spending_drive};
 use crate::finder::WORK_WORDS;
 use crate::lent::Lent;
 use crate::proved::Proved;
@@ -108,6 +108,7 @@ fn all() -> Vec<NamedCall> {
         short_answers(),
         full_lists(),
         operands(),
+        absences(),
     ];
     groups.into_iter().flatten().collect()
 }
@@ -196,6 +197,33 @@ fn operands() -> Vec<NamedCall> {
         ((b{0,1})*|e)*       9 13 0,  10 10 0,  11 10 1
     ";
     table(&spending_drive(), calls)
+}
+
+/// An absence has no round of its own, and comes after those of its operand. On R, `(~a)*` has one round
+/// and `((~a){1,1})*` three; with 32 runs, `~a` has no room.
+fn absences() -> Vec<NamedCall> {
+    let on_r = "
+        ~a            0 0 0,  7 0 7,  max 0 max
+        ~~a           0 5 0,  7 5 7
+        ~(a{2,2})*    0 13 0,  1 13 0,  2 0 0,  3 0 1
+        ~(~(a{2,2})*) 1 13 0,  2 0 0,  9 0 7
+        (~a)*         0 13 0,  1 0 0,  2 0 1
+        (~a*)*        0 13 0,  1 13 0,  2 0 0,  3 0 1
+        ((~a){1,1})*  2 13 0,  3 0 0,  4 0 1
+        ~a*.(~a)*     1 13 0,  2 0 0
+    ";
+    let no_room = "
+        ~a        0 10 0,  3 10 3
+        (~a)*     0 10 0,  3 10 3
+        ~a*       0 13 0,  1 10 0,  2 10 1
+        ~(a|_*)   0 13 0,  1 10 0,  2 10 1
+        ~(_*|a)   0 13 0,  1 0 0,  2 0 1
+        ~a|_*     0 10 0,  2 10 2
+        _*|~a     0 13 0,  1 10 0
+    ";
+    let mut calls = table(&recording_r(), on_r);
+    calls.extend(table(&pulses(32), no_room));
+    calls
 }
 
 #[cfg(test)]

@@ -186,6 +186,7 @@ fn all() -> Vec<NamedSheet> {
     let groups = [
         ordinary(),
         first_reports(),
+        absences(),
         purses(),
         operands(),
         nested(),
@@ -310,6 +311,97 @@ fn first_reports() -> Vec<NamedSheet> {
             &late_pulses(128),
             full,
         ),
+    ]
+}
+
+/// An absence spends nothing itself; its operand does, and what is built from its list. On R the first
+/// round of `(~a)*` changes nothing, `(a|!a)*` has two rounds and `((~a){1,1})*` three. With 32 runs `~a`
+/// has no room, also where the star before it has spent its round. Where the first run is the first
+/// report, there are 63 events, whose absence has 127 zones.
+fn absences() -> Vec<NamedSheet> {
+    let of_r = "
+        ~a            0 0
+        ~~a           5 0
+        ~(~a)         0 0
+        a.~a.a        0 0
+        (~a)*         0 1
+        ~a*           0 1
+        ~(a|!a)*      0 2
+        ((~a){1,1})*  0 3
+    ";
+    let of_r_too = "
+        ~_         0 0
+        ~(a|!a)    0 0
+        ~a&!a      0 0
+        ~a{1,2}    0 0
+        (~a){1,2}  0 0
+        !~a        5 0
+        ~-a        0 0
+        ~          5 0
+    ";
+    let nothing_reported = "
+        ~a        0 0
+        ~(~a)     0 0
+        (~a)*     0 1
+        ~a**      0 2
+        ~a&~!a&_  0 0
+        a~        5 0
+    ";
+    let no_room = "
+        ~a       10 0
+        ~(a|_)   10 0
+        ~(_|a)    0 0
+        ~a*      10 1
+        (~a)*    10 0
+        a.~_      0 0
+        ~(~a)    10 0
+        _         0 0
+    ";
+    let in_an_operand = "
+        ~a&_        10 0
+        _|~a        10 0
+        _*.~a       10 1
+        (~a){9,}    10 0
+        ~(~(~a))    10 0
+        ~(+a|-a)     0 0
+        ~+a          0 0
+        ~(a{6,})     0 0
+    ";
+    let too_long_itself = "
+        ~a           10 0
+        ~(a&_)       10 0
+        ~_            0 0
+        ~(a|~a)      10 0
+    ";
+    let spent = "
+        (a{0,1})*          0 99990
+        ~(b{0,1})*         0    10
+        ~b                 0     0
+        ~(f)*             13     0
+        ~(~b.~c)           0     0
+        (~f)*             13     0
+        ~e                10     0
+    ";
+    let stopped = "
+        (i{0,1})*          0 99872
+        ~(d{1,1})*        10   127
+        ~(f)*              0     1
+        ~_                 0     0
+        ~(b{0,1})*.~e     13     0
+    ";
+    vec![
+        on_r("absences", of_r),
+        on_r("more absences", of_r_too),
+        NamedSheet::table(
+            "absences where nothing is reported",
+            &recording(100, 1, &[]),
+            nothing_reported,
+        ),
+        NamedSheet::table("absences of 32 runs", &pulses(32), no_room),
+        NamedSheet::table("10 in an operand", &late_pulses(32), in_an_operand),
+        NamedSheet::table("absences of 129 runs", &pulses(129), too_long_itself),
+        spending("absences with just 100,000 rounds", spent),
+        spending("10 in the operand of an absence", stopped),
     ]
 }
 

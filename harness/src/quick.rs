@@ -43,17 +43,7 @@ impl ZoneList for QuickList {
         if !self.is_beyond(&zone) && !self.make_way(&zone) {
             return Ok(());
         }
-        if self.zones.len() == MAX_ZONES {
-            return Err(Refusal::ListFull);
-        }
-        self.zones.push(zone);
-        // A removed zone lies inside the one that is put, so its start word is no larger. Its -start
-        // word may have been the smallest; where it still counts, a put only looks through more zones
-        // than it need.
-        let starts = zone.starts();
-        self.highest = self.highest.max(starts.limit);
-        self.lowest = self.lowest.min(starts.minus_limit);
-        Ok(())
+        self.append(zone)
     }
 
     // The joins are closures: `Zone::meet` handed on by itself would be one function for this loop and
@@ -67,14 +57,43 @@ impl ZoneList for QuickList {
         self.put_pairs(left, right, Zone::ends, |left, right| left.compose(right))
     }
 
+    /// What breaks one limit shares no stretch with what keeps it, so the parts of a zone share none,
+    /// and those of two zones that share none share none either. A part has a stretch, so none lies
+    /// inside another: every put goes last, and need not look through the list.
+    fn put_outside(&mut self, listed: &QuickList, zone: &Zone) -> Result<(), Refusal> {
+        let mut listed = listed.zones.iter();
+        listed.try_for_each(|one| one.each_part_outside(zone, |part| self.append(part)))
+    }
+
     fn copy_from(&mut self, other: &QuickList) {
         self.zones.clear();
         self.zones.extend_from_slice(&other.zones);
         (self.highest, self.lowest) = (other.highest, other.lowest);
     }
+
+    fn clear(&mut self) {
+        self.zones.clear();
+        (self.highest, self.lowest) = (i32::MIN, i32::MAX);
+    }
 }
 
 impl QuickList {
+    /// Puts a zone last that lies inside no listed one, and that none lies inside any more.
+    #[inline(always)]
+    fn append(&mut self, zone: Zone) -> Result<(), Refusal> {
+        if self.zones.len() == MAX_ZONES {
+            return Err(Refusal::ListFull);
+        }
+        self.zones.push(zone);
+        // A removed zone lies inside the one that is put, so its start word is no larger. Its -start
+        // word may have been the smallest; where it still counts, a put only looks through more zones
+        // than it need.
+        let starts = zone.starts();
+        self.highest = self.highest.max(starts.limit);
+        self.lowest = self.lowest.min(starts.minus_limit);
+        Ok(())
+    }
+
     /// Whether the zone starts later than all listed ones: its start word is above theirs, so it lies
     /// inside none of them, and its -start word is below theirs, so none of them lies inside it.
     #[inline(always)]

@@ -137,7 +137,7 @@ pub struct Taste {
     pub stars: bool,
 }
 
-/// A random tree: joins down to single leaves, with bands and stars strewn over it.
+/// A random tree: joins down to single leaves, with bands, stars and absences strewn over it.
 pub fn drill(rng: &mut Rng, taste: Taste) -> Drill {
     let leaves = rng.between(1, taste.leaves);
     tree(rng, taste, leaves)
@@ -150,10 +150,10 @@ fn tree(rng: &mut Rng, taste: Taste, leaves: u32) -> Drill {
         join(rng, taste, leaves)
     };
     while rng.once_in(4) {
-        tree = if taste.stars && rng.once_in(2) {
-            Drill::Star(Box::new(tree))
-        } else {
-            Drill::Within(Box::new(tree), band(rng, taste.limit))
+        tree = match rng.below(8) {
+            0 | 1 => Drill::Absent(Box::new(tree)),
+            2..5 if taste.stars => Drill::Star(Box::new(tree)),
+            _ => Drill::Within(Box::new(tree), band(rng, taste.limit)),
         };
     }
     tree

@@ -104,6 +104,12 @@ pub struct Tally {
     pub rises: u64,
     /// Accepted drills with a fall that lists a zone.
     pub falls: u64,
+    /// Accepted drills with an absence that leaves something out.
+    pub absences: u64,
+    /// Accepted drills with an absence in the operand of another.
+    pub absent_absences: u64,
+    /// Drills refused by 10 with an absence that has no room though its operand has.
+    pub full_absences: u64,
     pub first_reports: FirstReports,
     zones: u64,
     stars: u64,
@@ -160,6 +166,15 @@ impl Tally {
             (self.halves_down, "accepted with a half that goes down"),
             (self.rises, "accepted with a rise that lists a zone"),
             (self.falls, "accepted with a fall that lists a zone"),
+            (
+                self.absences,
+                "accepted with an absence that leaves something out",
+            ),
+            (
+                self.absent_absences,
+                "accepted with an absence in an absence",
+            ),
+            (self.full_absences, "refused 10 in an absence"),
             (self.told.accepted(), "told the rounds left and accepted"),
             (self.last_rounds, "accepted with the last round left"),
             (self.after_13, "accepted after a drill refused 13"),
@@ -189,6 +204,9 @@ impl Tally {
             halves_down: 1,
             rises: 1,
             falls: 1,
+            absences: 1,
+            absent_absences: 1,
+            full_absences: 1,
             first_reports: FirstReports {
                 at_once: 1,
                 late: 1,
@@ -218,20 +236,24 @@ impl fmt::Display for Tally {
         write!(
             out,
             "{} calls, accepted {} ({} of them with a bound that is not reached, {} with a half that \
-             goes down, {} with a rise and {} with a fall that lists a zone; asking for a low channel or \
-             an event, on drives: {}) with {} zones and {} stars (at most {} rounds, all within n + d), \
-             {}; ",
+             goes down, {} with a rise and {} with a fall that lists a zone, {} with an absence that \
+             leaves something out, {} with an absence in an absence; asking for a low channel or an \
+             event, on drives: {}) with {} zones and {} stars (at most {} rounds, all within n + d), \
+             {}, refused 10 in an absence: {}; ",
             self.alone.total(),
             self.alone.accepted(),
             self.not_reached,
             self.halves_down,
             self.rises,
             self.falls,
+            self.absences,
+            self.absent_absences,
             self.first_reports,
             self.zones,
             self.stars,
             self.most_rounds,
             self.alone.each(Refusal::OF_FIND),
+            self.full_absences,
         )?;
         write!(
             out,
@@ -269,7 +291,7 @@ mod tests {
     fn a_campaign_misses_what_never_came_up() {
         assert_eq!(Tally::full().missing(), [""; 0]);
         type Take = fn(&mut Tally);
-        let taken: [(Take, &str); 21] = [
+        let taken: [(Take, &str); 24] = [
             (|tally| tally.alone.0[1] = 0, "refused 1"),
             (|tally| tally.alone.0[11] = 0, "refused 11"),
             (
@@ -288,6 +310,15 @@ mod tests {
                 |tally| tally.falls = 0,
                 "accepted with a fall that lists a zone",
             ),
+            (
+                |tally| tally.absences = 0,
+                "accepted with an absence that leaves something out",
+            ),
+            (
+                |tally| tally.absent_absences = 0,
+                "accepted with an absence in an absence",
+            ),
+            (|tally| tally.full_absences = 0, "refused 10 in an absence"),
             (
                 |tally| tally.first_reports.at_once = 0,
                 "accepted on a drive first reported at tick 0",

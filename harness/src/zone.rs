@@ -27,6 +27,19 @@ fn sum(x: i32, y: i32) -> i32 {
     x + y - ((x | y) & 1)
 }
 
+/// The word of what breaks a limit, as a limit on the negated quantity: what is above v has its
+/// negation below -v, and what is v or above has it at -v or below.
+#[inline(always)]
+pub fn broken(word: i32) -> i32 {
+    1 - word
+}
+
+/// Where the limit on the negated quantity stands: the two of a quantity are neighbours.
+#[inline(always)]
+pub fn opposite(side: usize) -> usize {
+    side ^ 1
+}
+
 /// Whether an upper limit on a quantity and one on its negation leave no value: they sum to less
 /// than a reached 0.
 #[inline(always)]
@@ -92,6 +105,18 @@ impl Zone {
         ])
     }
 
+    /// All stretches from 0 to d.
+    pub fn everything(d: i32) -> Zone {
+        Zone([
+            reached(d),
+            reached(0),
+            reached(d),
+            reached(0),
+            reached(d),
+            reached(0),
+        ])
+    }
+
     /// The one stretch of length 0 at s.
     pub fn moment(s: i32) -> Zone {
         Zone([
@@ -102,6 +127,11 @@ impl Zone {
             reached(0),
             reached(0),
         ])
+    }
+
+    /// The stretches between any limits, if there are any.
+    pub fn between(words: [i32; WORDS]) -> Option<Zone> {
+        tighten(words)
     }
 
     /// A zone as it stands in an answer buffer.
@@ -162,6 +192,45 @@ impl Zone {
         let [s, ms, e, me, l, ml] = self.0;
         let l = length.map_or(l, |length| l.min(length));
         tighten([s, ms, e, me, l, ml.min(minus_length)])
+    }
+
+    /// The stretches of the zone that also keep to one more limit, if any.
+    #[inline(always)]
+    fn keeping(&self, side: usize, word: i32) -> Option<Zone> {
+        let mut words = self.0;
+        words[side] = word;
+        tighten(words)
+    }
+
+    /// Hands on the parts of this zone that are outside another one, in their order: what breaks its
+    /// first limit, then what keeps that one and breaks the second, and so on to the sixth.
+    ///
+    /// What keeps the limits gone through so far is a tight zone. So where its own limit is no larger
+    /// than the next one, nothing breaks that; and where its limit on the negated quantity is no larger
+    /// than that of breaking, everything does, and nothing is left for the limits behind.
+    #[inline(always)]
+    pub fn each_part_outside<E>(
+        &self,
+        other: &Zone,
+        mut found: impl FnMut(Zone) -> Result<(), E>,
+    ) -> Result<(), E> {
+        let mut kept = *self;
+        for (side, &limit) in other.0.iter().enumerate() {
+            if kept.0[side] <= limit {
+                continue;
+            }
+            if kept.0[opposite(side)] <= broken(limit) {
+                return found(kept);
+            }
+            if let Some(part) = kept.keeping(opposite(side), broken(limit)) {
+                found(part)?;
+            }
+            let Some(rest) = kept.keeping(side, limit) else {
+                break;
+            };
+            kept = rest;
+        }
+        Ok(())
     }
 
     /// The stretches with some cut whose left part lies in this zone and right part in the next.
@@ -345,6 +414,101 @@ mod tests {
         assert_eq!(sum(reached(3), not_reached(-5)), not_reached(-2));
         assert_eq!(sum(not_reached(3), not_reached(-5)), not_reached(-2));
         assert!(not_reached(4) < reached(4) && reached(4) < not_reached(5));
+    }
+
+    #[test]
+    fn what_breaks_a_limit_is_what_does_not_keep_it() {
+        assert_eq!(broken(reached(3)), not_reached(-3));
+        assert_eq!(broken(not_reached(3)), reached(-3));
+        for word in -9..=9 {
+            assert_eq!(broken(broken(word)), word);
+            for quantity in -40..=40 {
+                let breaks = keeps(broken(word), -quantity, 6);
+                assert_eq!(breaks, !keeps(word, quantity, 6), "{word} {quantity}");
+            }
+        }
+    }
+
+    fn parts_outside(zone: &Zone, other: &Zone) -> Vec<Zone> {
+        let mut parts = Vec::new();
+        let all = zone.each_part_outside(other, |part| {
+            parts.push(part);
+            Ok::<(), ()>(())
+        });
+        all.expect("nothing stops the walk");
+        parts
+    }
+
+    /// The k-th part keeps the first k limits and breaks the next one. Times between whole ticks may be
+    /// had on thirds, so parts without a stretch on thirds are empty.
+    #[test]
+    fn parts_break_one_limit_and_keep_those_before_it() {
+        let mut rng = Rng::new(2, 3);
+        let (mut whole, mut cut, mut counts) = (0, 0, [0; WORDS + 1]);
+        for _ in 0..3_000 {
+            let (zone, other) = (any_zone(&mut rng), any_zone(&mut rng));
+            let parts = parts_outside(&zone, &other);
+            let mut of_side = vec![Vec::new(); WORDS];
+            for start in 0..=3 * 6 {
+                for end in start..=3 * 6 {
+                    if !zone.has(start, end, 3) {
+                        continue;
+                    }
+                    let quantities = [start, -start, end, -end, end - start, start - end];
+                    let mut limits = other.0.iter().zip(quantities);
+                    let first = limits.position(|(&word, quantity)| !keeps(word, quantity, 3));
+                    if let Some(side) = first {
+                        of_side[side].push((start, end));
+                    }
+                    let holding = parts.iter().filter(|part| part.has(start, end, 3)).count();
+                    assert_eq!(holding, usize::from(first.is_some()));
+                }
+            }
+            of_side.retain(|stretches| !stretches.is_empty());
+            assert_eq!(parts.len(), of_side.len(), "{zone:?} {other:?}");
+            for (part, stretches) in parts.iter().zip(&of_side) {
+                assert!(stretches.iter().all(|&(s, e)| part.has(s, e, 3)));
+                assert_eq!(Zone::between(part.0), Some(*part), "tight");
+            }
+            whole += usize::from(parts == [zone]);
+            cut += usize::from(parts.len() > 1 && zone.meet(&other).is_none());
+            counts[parts.len()] += 1;
+        }
+        // Outside a zone that shares nothing with it a zone may be left whole, or be cut all the same.
+        assert!(whole > 100 && cut > 100, "{whole} {cut}");
+        assert!(counts[..5].iter().all(|&count| count > 20), "{counts:?}");
+    }
+
+    /// By hand, all stretches of 10 ticks outside the run from 2 to 7: start from 7 on; before 2; end
+    /// behind 7; at 2; none longer than 5; of length 0.
+    #[test]
+    fn parts_of_everything_outside_a_run() {
+        let everything = Zone::everything(10);
+        assert_eq!(Zone::between(everything.0), Some(everything));
+        let words = |word: &str| -> [i32; WORDS] {
+            let all = word.split(' ').map(|word| word.parse().unwrap());
+            all.collect::<Vec<_>>().try_into().unwrap()
+        };
+        let parts = [
+            "21 -13 21 -13 7 1",
+            "4 1 21 1 21 1",
+            "14 -3 21 -14 17 0",
+            "5 -3 5 -3 1 1",
+            "14 -4 14 -4 1 1",
+        ];
+        let expected = parts.map(|part| Zone(words(part)));
+        assert_eq!(parts_outside(&everything, &Zone::run(2, 7)), expected);
+        assert_eq!(parts_outside(&Zone::run(2, 7), &everything), []);
+        assert_eq!(parts_outside(&Zone::run(2, 7), &Zone::run(2, 7)), []);
+        // Nothing in common, and still cut: start from 5 on, before 3, and the rest by its end.
+        let over_7 = Zone(words(parts[2]));
+        let cut = [
+            "14 -9 21 -14 11 0",
+            "6 -3 21 -14 17 -8",
+            "10 -5 21 -14 15 -4",
+        ];
+        let cut = cut.map(|part| Zone(words(part)));
+        assert_eq!(parts_outside(&over_7, &Zone::run(3, 5)), cut);
     }
 
     #[test]

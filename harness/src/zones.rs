@@ -34,7 +34,13 @@ pub trait ZoneList: Sized {
     /// For each left zone, for each right zone, puts their composition, if there is any.
     fn put_compositions(&mut self, left: &Self, right: &Self) -> Result<Self::Told, Refusal>;
 
+    /// For each listed zone, puts its parts outside the given zone, those that are not empty. No two
+    /// listed zones share a stretch.
+    fn put_outside(&mut self, listed: &Self, zone: &Zone) -> Result<(), Refusal>;
+
     fn copy_from(&mut self, other: &Self);
+
+    fn clear(&mut self);
 
     fn put_if_any(&mut self, zone: Option<Zone>) -> Result<(), Refusal> {
         zone.map_or(Ok(()), |zone| self.put(zone))
@@ -65,14 +71,13 @@ impl ZoneList for List {
     /// and one that the new zone holds: the first of either kind says which case it is.
     #[inline]
     fn put(&mut self, zone: Zone) -> Result<(), Refusal> {
-        for first in 0..self.0.len() {
+        let mut listed = self.0.iter();
+        let first = listed.position(|one| one.contains(&zone) || zone.contains(one));
+        if let Some(first) = first {
             if self.0[first].contains(&zone) {
                 return Ok(());
             }
-            if zone.contains(&self.0[first]) {
-                self.remove_inside(&zone, first);
-                break;
-            }
+            self.remove_inside(&zone, first);
         }
         if self.0.len() == MAX_ZONES {
             return Err(Refusal::ListFull);
@@ -91,9 +96,21 @@ impl ZoneList for List {
         self.put_pairs(left, right, Zone::compose)
     }
 
+    // A function of its own: compiled into the matcher, it makes the loops over pairs slower, which
+    // others are timed against.
+    #[inline(never)]
+    fn put_outside(&mut self, listed: &List, zone: &Zone) -> Result<(), Refusal> {
+        let mut listed = listed.0.iter();
+        listed.try_for_each(|one| one.each_part_outside(zone, |part| self.put(part)))
+    }
+
     fn copy_from(&mut self, other: &List) {
         self.0.clear();
         self.0.extend_from_slice(&other.0);
+    }
+
+    fn clear(&mut self) {
+        self.0.clear();
     }
 }
 
@@ -213,6 +230,7 @@ impl<'a, L: ZoneList> Matcher<'a, L> {
             Drill::Either(left, right) => self.either(left, right),
             Drill::Within(inner, band) => self.within(inner, *band),
             Drill::Star(inner) => self.star(inner),
+            Drill::Absent(inner) => self.absent(inner),
         }
     }
 
@@ -303,6 +321,21 @@ impl<'a, L: ZoneList> Matcher<'a, L> {
             rounds,
         });
         list.put(self.whole_diagonal())?;
+        Ok(list)
+    }
+
+    /// All stretches in one zone, and then, for each zone of the operand, a new list of what is left
+    /// outside it.
+    fn absent(&mut self, inner: &Drill) -> Result<L, Stop> {
+        let inner = self.list(inner)?;
+        let mut list = L::new();
+        list.put(Zone::everything(self.recording.ticks() as i32))?;
+        let mut next = L::new();
+        for zone in inner.zones() {
+            next.clear();
+            next.put_outside(&list, zone)?;
+            std::mem::swap(&mut list, &mut next);
+        }
         Ok(list)
     }
 

@@ -13,6 +13,7 @@ use Rattle.expression.specs.Grammar.{
   alternative,
   conjunction,
   sequence,
+  factor,
   repeat,
   primary,
   Form,
@@ -20,8 +21,10 @@ use Rattle.expression.specs.Grammar.{
   bar,
   sequence-alone,
   ampersand,
-  repeat-alone,
+  factor-alone,
   dot,
+  repeat-alone,
+  tilde,
   primary-alone,
   asterisk,
   braces,
@@ -33,10 +36,10 @@ use Rattle.expression.specs.Grammar.{
   brackets,
 }
 use Rattle.tokens.specs.Tokens.{signed, Got, no, yes, branch, bind, starts, rest, expect, postfix}
-use Rattle.descent.specs.Descent.{symbol, Rank, joining, repeating, single, below, descent}
+use Rattle.descent.specs.Descent.{symbol, Rank, joining, factoring, repeating, single, below, descent}
 use Rattle.tokens.proofs.Text.{yes-value}
 use Rattle.descent.proofs.Sound.{sound}
-use Rattle.descent.proofs.Steps.{joinsAfter, postfixesAfter, joining-is, repeating-is, single-is, joins-on, joins-off, postfixes-on, postfixes-off}
+use Rattle.descent.proofs.Steps.{joinsAfter, postfixesAfter, joining-is, factoring-is, repeating-is, single-is, joins-on, joins-off, postfixes-on, postfixes-off}
 use Rattle.tokens.proofs.Grammar.{ranged-on, limits-complete}
 
 -- what comes after a text of a level stops the levels inside it
@@ -44,12 +47,14 @@ abbrev Stops : Rank → List ℕ → Type 0
 Stops (joining Union) r = (starts 38 r ≡ false) × (starts 46 r ≡ false) × (postfix r ≡ no)
 Stops (joining Intersection) r = (starts 46 r ≡ false) × (postfix r ≡ no)
 Stops (joining Concatenation) r = postfix r ≡ no
+Stops factoring r = postfix r ≡ no
 Stops repeating r = Unit {0}
 Stops single r = Unit {0}
 
 -- how a level goes on after the expression e
 abbrev after : Rank → Expression → List ℕ → Got Expression
 after (joining j) e r = joinsAfter j e r
+after factoring e r = yes e r
 after repeating e r = postfixesAfter e r
 after single e r = yes e r
 
@@ -57,7 +62,7 @@ after single e r = yes e r
 stops : (j : Join) (e : Expression) (r : List ℕ) → Stops (joining j) r → Stops (below j) r × (after (below j) e r ≡ yes e r)
 stops Union e r z = ((z .1, z .2), joins-off Intersection e r (z .0))
 stops Intersection e r z = (z .1, joins-off Concatenation e r (z .0))
-stops Concatenation e r z = (tt, postfixes-off e r z)
+stops Concatenation e r z = (z, refl)
 
 own-symbol : (j : Join) (r : List ℕ) → Stops (joining j) (symbol j ∷ r)
 unfolding starts branch
@@ -97,8 +102,24 @@ abbrev rank : Level → Rank
 rank alternative = joining Union
 rank conjunction = joining Intersection
 rank sequence = joining Concatenation
+rank factor = factoring
 rank repeat = repeating
 rank primary = single
+
+-- neither a primary nor a repeat begins with `~`
+primary-untilded : {s : List ℕ} {e : Expression} → Form primary s e → (r : List ℕ) → starts 126 (s ++ r) ≡ false
+unfolding starts
+primary-untilded underline = λ r. refl
+primary-untilded (letter {k = k} h) = λ r. let a : (97 + k ≡ 126) → ⊥ = omega arith in rw (ne-eqb _ _ a)
+primary-untilded (exclamation h) = λ r. refl
+primary-untilded (plus h) = λ r. refl
+primary-untilded (minus h) = λ r. refl
+primary-untilded (brackets f) = λ r. refl
+
+untilded : {s : List ℕ} {e : Expression} → Form repeat s e → (r : List ℕ) → starts 126 (s ++ r) ≡ false
+untilded (primary-alone f) = λ r. primary-untilded f r
+untilded (asterisk f) = λ r. rw append-assoc (untilded f (42 ∷ r))
+untilded (braces {u = u} f g) = λ r. rw append-assoc (untilded f (123 ∷ ((u ++ (125 ∷ [])) ++ r)))
 
 complete : {l : Level} {s : List ℕ} {e : Expression} → Form l s e → Reads (rank l) s e
 unfolding bind branch expect starts rest signed
@@ -106,8 +127,10 @@ complete (conjunction-alone {s = s} {e = e} f) = reads-alone Union s e (complete
 complete (bar {s = s} {u = u} {e = e} {f = f} p q) = reads-also Union s u e f (complete p) (complete q)
 complete (sequence-alone {s = s} {e = e} f) = reads-alone Intersection s e (complete f)
 complete (ampersand {s = s} {u = u} {e = e} {f = f} p q) = reads-also Intersection s u e f (complete p) (complete q)
-complete (repeat-alone {s = s} {e = e} f) = reads-alone Concatenation s e (complete f)
+complete (factor-alone {s = s} {e = e} f) = reads-alone Concatenation s e (complete f)
 complete (dot {s = s} {u = u} {e = e} {f = f} p q) = reads-also Concatenation s u e f (complete p) (complete q)
+complete (repeat-alone {s = s} {e = e} f) = λ r z. factoring-is (s ++ r) ∙ rw (untilded f r) (complete f r tt ∙ postfixes-off e r z)
+complete (tilde {s = s} {e = e} f) = λ r z. factoring-is (126 ∷ (s ++ r)) ∙ rw (complete f r tt ∙ postfixes-off e r z)
 complete (primary-alone {s = s} f) = λ r z. repeating-is (s ++ r) ∙ rw (complete f r tt)
 complete (asterisk {s = s} {e = e} f) = λ r z. rw append-assoc (complete f (42 ∷ r) tt ∙ postfixes-on e (42 ∷ r) refl)
 complete (braces {s = s} {u = u} {e = e} f g) = λ r z.
@@ -115,8 +138,8 @@ complete (braces {s = s} {u = u} {e = e} f g) = λ r z.
     (complete f (123 ∷ ((u ++ (125 ∷ [])) ++ r)) tt ∙ postfixes-on e (123 ∷ ((u ++ (125 ∷ [])) ++ r)) (rw (append-assoc u (125 ∷ []) r, limits-complete g r)))
 complete underline = λ r z. single-is (95 ∷ r)
 complete (letter {k = k} h) = λ r z.
-    let a : (97 + k ≡ 95) → ⊥ = omega arith in
-    let b : (97 + k ≡ 40) → ⊥ = omega arith in
+    let a : (97 + k ≡ 40) → ⊥ = omega arith in
+    let b : (97 + k ≡ 95) → ⊥ = omega arith in
     let c : (97 + k ≡ 33) → ⊥ = omega arith in
     let d : (97 + k ≡ 43) → ⊥ = omega arith in
     let e : (97 + k ≡ 45) → ⊥ = omega arith in

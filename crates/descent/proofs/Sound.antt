@@ -11,12 +11,14 @@ use Rattle.expression.specs.declared.Sign.the-variants.{High, Low, Rise, Fall}
 use Rattle.expression.specs.declared.Join.{Join}
 use Rattle.expression.specs.declared.Join.the-variants.{Union, Intersection, Concatenation}
 use Rattle.expression.specs.declared.Unary.{Unary}
+use Rattle.expression.specs.declared.Unary.the-variants.{Absence}
 use Rattle.expression.specs.Expression.{Expression, literal, join, unary}
 use Rattle.expression.specs.Grammar.{
   Level,
   alternative,
   conjunction,
   sequence,
+  factor,
   repeat,
   primary,
   Form,
@@ -24,8 +26,10 @@ use Rattle.expression.specs.Grammar.{
   bar,
   sequence-alone,
   ampersand,
-  repeat-alone,
+  factor-alone,
   dot,
+  repeat-alone,
+  tilde,
   primary-alone,
   asterisk,
   braces,
@@ -39,7 +43,7 @@ use Rattle.expression.specs.Grammar.{
 use Rattle.tokens.specs.Tokens.{yes, bind, starts, rest, ranged, postfix, signed, lettered, Got, no}
 use Rattle.tokens.proofs.Text.{no-yes, yes-text, yes-value, bind-yes, branch-split, starts-is}
 use Rattle.tokens.proofs.Grammar.{expect-sound, ranged-sound, limits-sound}
-use Rattle.descent.specs.Descent.{postfixes, symbol, Rank, joining, repeating, single, below, read, joins, perhaps}
+use Rattle.descent.specs.Descent.{postfixes, symbol, Rank, joining, factoring, repeating, single, below, read, joins, perhaps}
 
 perhaps-split : {A B : Type 0} (g : Got A) (k : A → List ℕ → Got B) (h : Got B) {y : B} {r : List ℕ}
     → perhaps g k h ≡ yes y r → ((x : A) × (s : List ℕ) × (g ≡ yes x s) × (k x s ≡ yes y r)) ⊎ ((g ≡ no) × (h ≡ yes y r))
@@ -51,6 +55,7 @@ abbrev pub level : Rank → Level
 level (joining Union) = alternative
 level (joining Intersection) = conjunction
 level (joining Concatenation) = sequence
+level factoring = factor
 level repeating = repeat
 level single = primary
 
@@ -58,7 +63,7 @@ level single = primary
 pub alone : (j : Join) {s : List ℕ} {e : Expression} → Form (level (below j)) s e → Form (level (joining j)) s e
 alone Union f = conjunction-alone f
 alone Intersection f = sequence-alone f
-alone Concatenation f = repeat-alone f
+alone Concatenation f = factor-alone f
 
 pub also : (j : Join) {s u : List ℕ} {e f : Expression} → Form (level (joining j)) s e → Form (level (below j)) u f
     → Form (level (joining j)) (s ++ (symbol j ∷ u)) (join j e f)
@@ -72,8 +77,10 @@ some (conjunction-alone f) = some f
 some (bar {s = s} {u = u} f g) = simp length-append (omega arith)
 some (sequence-alone f) = some f
 some (ampersand f g) = simp length-append (omega arith)
-some (repeat-alone f) = some f
+some (factor-alone f) = some f
 some (dot f g) = simp length-append (omega arith)
+some (repeat-alone f) = some f
+some (tilde f) = omega arith
 some (primary-alone f) = some f
 some (asterisk f) = simp length-append (omega arith)
 some (braces f g) = simp length-append (omega arith)
@@ -95,7 +102,7 @@ More l w s e r = (u : List ℕ) × (s ≡ u ++ r) × Form l (w ++ u) e
 no-more : {l : Level} {w s : List ℕ} {e f : Expression} {r : List ℕ} → yes e s ≡ yes f r → Form l w e → More l w s f r
 no-more {l} {w} e f = ([], yes-text e, subst (λ (x : Expression). Form l (w ++ []) x) (yes-value e) (rw append-nil f))
 
--- an operator with one operand goes on after any repeat
+-- an operator after its operand goes on after any repeat
 postfix-sound : (s : List ℕ) (u : Unary) (r : List ℕ) → postfix s ≡ yes u r
     → (p : List ℕ) × (s ≡ p ++ r) × (0 < length p) × ((w : List ℕ) (e : Expression) → Form repeat w e → Form repeat (w ++ p) (unary u e))
 postfix-sound s u r h =
@@ -180,6 +187,17 @@ mutual
       let h = sound n (below j) s (b .0) (b .1) (b .2) in
       let k = joins-sound n j (h .0) (b .0) (b .1) t r (b .3) (alone j (h .2)) in
       (h .0 ++ k .0, rw append-assoc (rw (← k .1) (h .1)), k .2)
+  sound (suc n) factoring s t r e =
+      ⊎-elim
+      (λ w.
+      let b = bind-yes _ _ (w .1) in
+      let h = sound n repeating (rest s) (b .0) (b .1) (b .2) in (
+        126 ∷ h .0,
+        starts-is 126 s (w .0) ∙ ap (λ (y : List ℕ). 126 ∷ y) (h .1 ∙ ap (λ (y : List ℕ). h .0 ++ y) (yes-text (b .3))),
+        subst (λ (x : Expression). Form factor (126 ∷ h .0) x) (yes-value (b .3)) (tilde (h .2)),
+      ))
+      (λ w. let h = sound n repeating s t r (w .1) in (h .0, h .1, repeat-alone (h .2)))
+      (branch-split _ _ _ e)
   sound (suc n) repeating s t r e =
       let b = bind-yes _ _ e in
       let h = sound n single s (b .0) (b .1) (b .2) in
@@ -187,12 +205,6 @@ mutual
       (h .0 ++ k .0, rw append-assoc (rw (← k .1) (h .1)), k .2)
   sound (suc n) single s t r e =
       ⊎-elim
-      (λ w. (
-        95 ∷ [],
-        starts-is 95 s (w .0) ∙ ap (λ (y : List ℕ). 95 ∷ y) (yes-text (w .1)),
-        subst (λ (x : Expression). Form primary (95 ∷ []) x) (yes-value (w .1)) underline,
-      ))
-      (λ w. ⊎-elim
       (λ v.
       let b = bind-yes _ _ (v .1) in
       let h = sound n (joining Union) (rest s) (b .0) (b .1) (b .2) in
@@ -201,8 +213,14 @@ mutual
         starts-is 40 s (v .0) ∙ ap (λ (y : List ℕ). 40 ∷ y) (h .1 ∙ ap (λ (y : List ℕ). h .0 ++ y) (k .1) ∙ sym (append-assoc (h .0) (41 ∷ []) r)),
         subst (λ (y : Expression). Form primary (40 ∷ (h .0 ++ (41 ∷ []))) y) (k .0) (brackets (h .2)),
       ))
-      (λ v. lettered-sound s t r (v .1))
-      (branch-split _ _ _ (w .1)))
+      (λ v. ⊎-elim
+      (λ w. (
+        95 ∷ [],
+        starts-is 95 s (w .0) ∙ ap (λ (y : List ℕ). 95 ∷ y) (yes-text (w .1)),
+        subst (λ (x : Expression). Form primary (95 ∷ []) x) (yes-value (w .1)) underline,
+      ))
+      (λ w. lettered-sound s t r (w .1))
+      (branch-split _ _ _ (v .1)))
       (branch-split _ _ _ e)
 
   joins-sound : (n : ℕ) (j : Join) (w : List ℕ) (t : Expression) (s : List ℕ) (u : Expression) (r : List ℕ)

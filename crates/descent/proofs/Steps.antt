@@ -8,10 +8,11 @@ use lib.ListN.{length}
 use Rattle.expression.specs.declared.Join.{Join}
 use Rattle.expression.specs.declared.Join.the-variants.{Union, Intersection, Concatenation}
 use Rattle.expression.specs.declared.Unary.{Unary}
+use Rattle.expression.specs.declared.Unary.the-variants.{Absence}
 use Rattle.expression.specs.Expression.{Expression, epsilon, join, unary}
 use Rattle.tokens.specs.Tokens.{Got, no, yes, branch, bind, starts, rest, expect, postfix, lettered}
 use Rattle.tokens.proofs.Text.{starts-shorter}
-use Rattle.descent.specs.Descent.{perhaps, postfixes, symbol, Rank, joining, repeating, single, below, read, joins, height, need, descent}
+use Rattle.descent.specs.Descent.{perhaps, postfixes, symbol, Rank, joining, factoring, repeating, single, below, read, joins, height, need, descent}
 use Rattle.descent.proofs.Sound.{shorter, postfix-shorter}
 
 -- how the reading goes on after the first operand of a join, and after a primary
@@ -54,7 +55,7 @@ below-height Union = refl
 below-height Intersection = refl
 below-height Concatenation = refl
 
-height-low : (j : Join) → height (joining j) ≤ 5
+height-low : (j : Join) → height (joining j) ≤ 6
 unfolding height
 height-low Union = omega arith
 height-low Intersection = omega arith
@@ -65,8 +66,13 @@ unfolding height
 height-some (joining Union) = omega arith
 height-some (joining Intersection) = omega arith
 height-some (joining Concatenation) = omega arith
+height-some factoring = omega arith
 height-some repeating = omega arith
 height-some single = omega arith
+
+height-factoring : height factoring ≡ height repeating + 1
+unfolding height
+height-factoring = refl
 
 height-repeating : height repeating ≡ height single + 1
 unfolding height
@@ -84,15 +90,19 @@ mutual
       let b = height-some (below j) in
       bind-same _ _ _ (same n m (below j) s (omega arith) (omega arith))
       (λ e r g. let f = shorter n (below j) s e r g in joins-same n m j e r (omega arith) (omega arith))
+  same (suc n) (suc m) factoring s h l =
+      let d = height-factoring in
+      branch-same _ _ _ _ _
+      (λ w. let f = starts-shorter 126 s w in bind-same _ _ _ (same n m repeating (rest s) (omega arith) (omega arith)) (λ e r g. refl))
+      (same n m repeating s (omega arith) (omega arith))
   same (suc n) (suc m) repeating s h l = let d = height-repeating in bind-same _ _ _ (same n m single s (omega arith) (omega arith)) (λ e r g. refl)
   same (suc n) (suc m) single s h l =
       let d = height-some single in
-      branch-same _ _ _ _ _ (λ w. refl)
-      (branch-same _ _ _ _ _
+      branch-same _ _ _ _ _
       (λ w.
       let f = starts-shorter 40 s w in
       bind-same _ _ _ (same n m (joining Union) (rest s) (omega (arith, height-low Union)) (omega (arith, height-low Union))) (λ e r g. refl))
-      refl)
+      refl
 
   joins-same : (n m : ℕ) (j : Join) (e : Expression) (s : List ℕ) → length s * 8 < n → length s * 8 < m → joins n j e s ≡ joins m j e s
   joins-same zero m j e s h l = absurd (omega arith)
@@ -117,23 +127,34 @@ joining-is j s =
     ∙ bind-same (read (need (below j) s) (below j) s) _ _ refl
     (λ e r g. let f = shorter (need (below j) s) (below j) s e r g in joins-same (need (below j) s) (length r * 8 + 1) j e r (omega arith) (omega arith))
 
+pub factoring-is : (s : List ℕ)
+    → descent factoring s
+    ≡ branch (starts 126 s) (λ _. bind (descent repeating (rest s)) (λ e r. yes (unary Absence e) r)) (λ _. descent repeating s)
+unfolding read height descent
+factoring-is s =
+    same (need factoring s) (suc (need repeating s)) factoring s (omega arith) (omega arith)
+    ∙ branch-same _ _ _ _ _
+    (λ w.
+    let f = starts-shorter 126 s w in
+    bind-same _ _ _ (same (need repeating s) (need repeating (rest s)) repeating (rest s) (omega arith) (omega arith)) (λ e r g. refl))
+    refl
+
 pub repeating-is : (s : List ℕ) → descent repeating s ≡ bind (descent single s) (λ e r. postfixesAfter e r)
 unfolding read height descent postfixesAfter
 repeating-is s = same (need repeating s) (suc (need single s)) repeating s (omega arith) (omega arith)
 
 pub single-is : (s : List ℕ)
     → descent single s
-    ≡ branch (starts 95 s) (λ _. yes epsilon (rest s))
-    (λ _. branch (starts 40 s) (λ _. bind (descent (joining Union) (rest s)) (λ e r. expect 41 e r)) (λ _. lettered s))
+    ≡ branch (starts 40 s) (λ _. bind (descent (joining Union) (rest s)) (λ e r. expect 41 e r))
+    (λ _. branch (starts 95 s) (λ _. yes epsilon (rest s)) (λ _. lettered s))
 unfolding read height descent
 single-is s =
     same (need single s) (suc (length s * 8)) single s (omega arith) (omega arith)
-    ∙ branch-same _ _ _ _ _ (λ w. refl)
-    (branch-same _ _ _ _ _
+    ∙ branch-same _ _ _ _ _
     (λ w.
     let f = starts-shorter 40 s w in
     bind-same _ _ _ (same (length s * 8) (need (joining Union) (rest s)) (joining Union) (rest s) (omega arith) (omega arith)) (λ e r g. refl))
-    refl)
+    refl
 
 joins-is : (j : Join) (e : Expression) (s : List ℕ)
     → joinsAfter j e s ≡ branch (starts (symbol j) s) (λ _. bind (descent (below j) (rest s)) (λ f r. joinsAfter j (join j e f) r)) (λ _. yes e s)

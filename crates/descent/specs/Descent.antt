@@ -1,10 +1,11 @@
--- Recursive descent as a function, by which the private readers of `parser` say in their contracts which text they read.
--- No public contract cites it; `parse` answers by the grammar, and proofs/ shows that the two agree.
+-- Recursive descent as a function, by which the readers of `leaves` and `parser` say in their contracts which text they read.
+-- The contract of `parse` does not cite it: that answers by the grammar, and proofs/ shows that the two agree.
 use Prim.Native.Nat.{ℕ, zero, suc, _+_, _*_}
 use mathlib.Core.List.{List}
 use lib.ListN.{length}
 use Rattle.expression.specs.declared.Join.{Join}
 use Rattle.expression.specs.declared.Join.the-variants.{Union, Intersection, Concatenation}
+use Rattle.expression.specs.declared.Unary.the-variants.{Absence}
 use Rattle.expression.specs.Expression.{Expression, epsilon, join, unary}
 use Rattle.tokens.specs.Tokens.{Got, no, yes, branch, bind, starts, rest, expect, postfix, lettered}
 
@@ -27,6 +28,7 @@ symbol Concatenation = 46
 -- the grammar's levels, the three that join as one
 pub data Rank : Type 0 where
   joining : Join → Rank
+  factoring : Rank
   repeating : Rank
   single : Rank
 
@@ -34,26 +36,29 @@ pub data Rank : Type 0 where
 abbrev pub below : Join → Rank
 below Union = joining Intersection
 below Intersection = joining Concatenation
-below Concatenation = repeating
+below Concatenation = factoring
 
 unfoldable mutual
   -- n bounds how deep the calls go
   pub read : ℕ → Rank → List ℕ → Got Expression
   read zero k s = no
   read (suc n) (joining j) s = bind (read n (below j) s) (λ e r. joins n j e r)
+  read (suc n) factoring s =
+      branch (starts 126 s) (λ _. bind (read n repeating (rest s)) (λ e r. yes (unary Absence e) r)) (λ _. read n repeating s)
   read (suc n) repeating s = bind (read n single s) (λ e r. postfixes (suc (length r)) e r)
   read (suc n) single s =
-      branch (starts 95 s) (λ _. yes epsilon (rest s))
-      (λ _. branch (starts 40 s) (λ _. bind (read n (joining Union) (rest s)) (λ e r. expect 41 e r)) (λ _. lettered s))
+      branch (starts 40 s) (λ _. bind (read n (joining Union) (rest s)) (λ e r. expect 41 e r))
+      (λ _. branch (starts 95 s) (λ _. yes epsilon (rest s)) (λ _. lettered s))
 
   pub joins : ℕ → Join → Expression → List ℕ → Got Expression
   joins zero j e s = no
   joins (suc n) j e s = branch (starts (symbol j) s) (λ _. bind (read n (below j) (rest s)) (λ f r. joins n j (join j e f) r)) (λ _. yes e s)
 
 unfoldable pub height : Rank → ℕ
-height (joining Union) = 5
-height (joining Intersection) = 4
-height (joining Concatenation) = 3
+height (joining Union) = 6
+height (joining Intersection) = 5
+height (joining Concatenation) = 4
+height factoring = 3
 height repeating = 2
 height single = 1
 

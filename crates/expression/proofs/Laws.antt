@@ -10,7 +10,7 @@ use Rattle.expression.specs.declared.Upper.{Upper}
 use Rattle.expression.specs.declared.Upper.the-variants.{Endless, UpTo}
 use Rattle.expression.specs.declared.Node.{Node}
 use Rattle.expression.specs.declared.Node.the-variants.{Epsilon, Literal, Infix, Applied}
-use Rattle.expression.specs.Expression.{Expression, epsilon, literal, join, Star, Band, unary, depth, letters, ranges}
+use Rattle.expression.specs.Expression.{Expression, epsilon, literal, join, Star, Band, Absence, unary, depth, letters, ranges}
 use Rattle.expression.specs.Refusal.{figure, Wrong, wrong-letter, wrong-range, too-deep, Accepted}
 use Rattle.expression.specs.Stored.{
   nodeAt,
@@ -72,6 +72,7 @@ made (stored-literal w) h k r = rw w (refl, k _ (List·Memᴰ·head refl))
 made (stored-join {e = f} {f = g} w a b x y) h k r = let t = two f g x y h k r in rw w (f, g, refl, t .0, t .1)
 made (stored-unary {u = Star} {e = f} w a x) h k r = rw w (f, refl, tt, one f x h k r)
 made (stored-unary {u = Band q} {e = f} w a x) h k r = rw w (f, refl, r q (List·Memᴰ·head refl), one f x h k (λ c m. r c (List·Memᴰ·tail m)))
+made (stored-unary {u = Absence} {e = f} w a x) h k r = rw w (f, refl, tt, one f x h k r)
 
 -- The operands of a planted node are planted, with a depth of one less left.
 pub operands : {ns : List ℕ} {channels n d : ℕ} {e : Expression} → Planted ns channels n d e → Operands ns channels (d - 1) e (nodeAt ns n)

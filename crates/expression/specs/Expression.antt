@@ -7,7 +7,7 @@ pub use Rattle.expression.specs.declared.Sign.the-variants.{High, Low, R
 pub use Rattle.expression.specs.declared.Join.{Join}
 pub use Rattle.expression.specs.declared.Join.the-variants.{Union, Intersection, Concatenation}
 pub use Rattle.expression.specs.declared.Unary.{Unary}
-pub use Rattle.expression.specs.declared.Unary.the-variants.{Star, Band}
+pub use Rattle.expression.specs.declared.Unary.the-variants.{Star, Band, Absence}
 
 -- A drill. A letter is its channel's number, `a` being 0. A range is the code's own struct; here its numbers may have any size.
 pub data Expression : Type 0 where
@@ -17,7 +17,7 @@ pub data Expression : Type 0 where
   literal : Sign → ℕ → Expression
   -- `|`, `&` and `.`
   join : Join → Expression → Expression → Expression
-  -- `*` and `{lo,hi}`
+  -- `*`, `{lo,hi}` and `~`
   unary : Unary → Expression → Expression
 
 -- "a letter, `!` with its letter, or `_` has 1, an operator one more than its deepest operand"; `+` and `-` with their letter have "depth 1"
@@ -41,3 +41,4 @@ ranges (literal s k) = []
 ranges (join j e f) = ranges e ++ ranges f
 ranges (unary Star e) = ranges e
 ranges (unary (Band r) e) = r ∷ ranges e
+ranges (unary Absence e) = ranges e

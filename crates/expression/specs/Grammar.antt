@@ -1,12 +1,12 @@
 -- Document 01's grammar: `Form l text e` says that the text is of the level l, and that it is the expression e.
--- Bytes: 33 `!`, 38 `&`, 40 `(`, 41 `)`, 42 `*`, 43 `+`, 44 `,`, 45 `-`, 46 `.`, 48 `0`, 60 `<`, 95 `_`, 97 `a`, 123 `{`, 124 `|`, 125 `}`.
+-- Bytes: 33 `!`, 38 `&`, 40 `(`, 41 `)`, 42 `*`, 43 `+`, 44 `,`, 45 `-`, 46 `.`, 48 `0`, 60 `<`, 95 `_`, 97 `a`, 123 `{`, 124 `|`, 125 `}`, 126 `~`.
 use Prim.Native.Nat.{ℕ, _+_, _*_, _<_}
 use mathlib.Core.List.{List, [], _∷_, _++_}
 use Rattle.expression.specs.declared.Range.{Range}
 use Rattle.expression.specs.declared.End.{End}
 use Rattle.expression.specs.declared.End.the-variants.{Closed, Open}
 use Rattle.expression.specs.declared.Upper.the-variants.{Endless, UpTo}
-use Rattle.expression.specs.Expression.{Expression, epsilon, High, Low, Rise, Fall, literal, Union, Intersection, Concatenation, join, Star, Band, unary}
+use Rattle.expression.specs.Expression.{Expression, epsilon, High, Low, Rise, Fall, literal, Union, Intersection, Concatenation, join, Star, Band, Absence, unary}
 
 -- "decimal, without a leading zero unless 0 itself": a digit goes after a number that is not 0
 pub data Number : List ℕ → ℕ → Type 0 where
@@ -27,6 +27,7 @@ pub data Level : Type 0 where
   alternative : Level
   conjunction : Level
   sequence : Level
+  factor : Level
   repeat : Level
   primary : Level
 
@@ -38,9 +39,12 @@ pub data Form : Level → List ℕ → Expression → Type 0 where
   -- "A conjunction is sequences joined by `&`."
   sequence-alone : {s : List ℕ} {e : Expression} → Form sequence s e → Form conjunction s e
   ampersand : {s u : List ℕ} {e f : Expression} → Form conjunction s e → Form sequence u f → Form conjunction (s ++ (38 ∷ u)) (join Intersection e f)
-  -- "A sequence is repeats joined by `.`."
-  repeat-alone : {s : List ℕ} {e : Expression} → Form repeat s e → Form sequence s e
-  dot : {s u : List ℕ} {e f : Expression} → Form sequence s e → Form repeat u f → Form sequence (s ++ (46 ∷ u)) (join Concatenation e f)
+  -- "A sequence is repeats joined by `.`.", each of them a factor: with or without a `~` before it
+  factor-alone : {s : List ℕ} {e : Expression} → Form factor s e → Form sequence s e
+  dot : {s u : List ℕ} {e f : Expression} → Form sequence s e → Form factor u f → Form sequence (s ++ (46 ∷ u)) (join Concatenation e f)
+  -- CR 7: "`~` before a repeat"; "`~a*` is the absence of `a*`"
+  repeat-alone : {s : List ℕ} {e : Expression} → Form repeat s e → Form factor s e
+  tilde : {s : List ℕ} {e : Expression} → Form repeat s e → Form factor (126 ∷ s) (unary Absence e)
   -- "A repeat is a primary followed by any number of `*` and `{lo,hi}`, applied left to right."
   primary-alone : {s : List ℕ} {e : Expression} → Form primary s e → Form repeat s e
   asterisk : {s : List ℕ} {e : Expression} → Form repeat s e → Form repeat (s ++ (42 ∷ [])) (unary Star e)

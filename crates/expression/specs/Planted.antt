@@ -2,7 +2,7 @@
 use mathlib.Core.List.{List, List·Memᴰ}
 use Prim.Native.Nat.{ℕ, _<_, _≤_}
 use Rattle.expression.specs.declared.Range.{Range}
-use Rattle.expression.specs.Expression.{Expression, Unary, Star, Band, depth, letters, ranges}
+use Rattle.expression.specs.Expression.{Expression, Unary, Star, Band, Absence, depth, letters, ranges}
 use Rattle.expression.specs.Refusal.{Wrong}
 use Rattle.expression.specs.Stored.{Stored}
 
@@ -17,3 +17,4 @@ pub record Planted (ns : List ℕ) (channels n d : ℕ) (e : Expression) : Type 
 abbrev pub Right : Unary → Type 0
 Right Star = Unit {0}
 Right (Band r) = Wrong r → ⊥
+Right Absence = Unit {0}

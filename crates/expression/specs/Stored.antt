@@ -11,7 +11,7 @@ use Rattle.expression.specs.declared.Upper.{Upper}
 use Rattle.expression.specs.declared.Upper.the-variants.{Endless, UpTo}
 use Rattle.expression.specs.declared.Node.{Node}
 use Rattle.expression.specs.declared.Node.the-variants.{Epsilon, Literal, Infix, Applied}
-use Rattle.expression.specs.Expression.{Expression, epsilon, Sign, High, Low, Rise, Fall, literal, Join, Union, Intersection, Concatenation, join, Unary, Star, Band, unary}
+use Rattle.expression.specs.Expression.{Expression, epsilon, Sign, High, Low, Rise, Fall, literal, Join, Union, Intersection, Concatenation, join, Unary, Star, Band, Absence, unary}
 
 -- the node of a band
 abbrev pub bandNode : End → Upper → ℕ → Node
@@ -33,7 +33,8 @@ decoded op x y z =
     (cond (eqb op 11) (bandNode (Closed y) (UpTo (Closed z)) x)
     (cond (eqb op 12) (bandNode (Closed y) (UpTo (Open z)) x)
     (cond (eqb op 13) (bandNode (Open y) (UpTo (Closed z)) x)
-    (cond (eqb op 14) (bandNode (Open y) (UpTo (Open z)) x) Epsilon)))))))))))))
+    (cond (eqb op 14) (bandNode (Open y) (UpTo (Open z)) x)
+    (cond (eqb op 15) (Applied Absence x) Epsilon))))))))))))))
 
 -- node n of the buffer; past its end every word is 0
 unfoldable pub nodeAt : List ℕ → ℕ → Node

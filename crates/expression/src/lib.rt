@@ -45,10 +45,11 @@ pub enum Join {
     Concatenation,
 }
 
-// The operators with one operand: `*` and `{lo,hi}`.
+// The operators with one operand: `*`, `{lo,hi}` and `~`.
 pub enum Unary {
     Star,
     Band(Range),
+    Absence,
 }
 
 // A node, with the numbers of the nodes of its operands. A channel is 0 for `a`.
@@ -154,6 +155,7 @@ fn node_of(op: u32, x: u32, y: u32, z: u32) -> Node
         12 => band_node(End::Closed(y), Upper::UpTo(End::Open(z)), x),
         13 => band_node(End::Open(y), Upper::UpTo(End::Closed(z)), x),
         14 => band_node(End::Open(y), Upper::UpTo(End::Open(z)), x),
+        15 => Node::Applied(Unary::Absence, x),
         _ => Node::Epsilon,
     }
 }
@@ -217,6 +219,7 @@ fn words_of(node: Node) -> Words
                 let hi = range.hi;
                 band_words(lo, hi, operand)
             }
+            Unary::Absence => Words(15, operand, 0, 0),
         },
     }
 }

@@ -65,6 +65,7 @@ fn print_unary(op: Unary) {
     match op {
         Unary::Star => print(b"*"),
         Unary::Band(range) => print_range(range),
+        Unary::Absence => print(b"~"),
     }
 }
 

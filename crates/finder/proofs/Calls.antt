@@ -26,7 +26,7 @@ use Rattle.calls.specs.Outcome.{Outcome, RecordingHead, DrillLength, DrillForm,
 use Rattle.calls.specs.Within.{CallWithin, LeftAfter, WithinAs}
 use Rattle.finder.specs.Demands.{Exact, Total, NoInputCause}
 use Rattle.meaning.proofs.Evaluation.{evaluates-well, evaluates-exists}
-use Rattle.meaning.proofs.Members.{members}
+use Rattle.meaning.proofs.Members.{fits-members}
 use Rattle.meaning.proofs.Totals.{evaluates-sum, sum-mem, sum-unique, rounds-of-unique, rounds-of-bound, rounds-of-pieces}
 use Rattle.calls.proofs.Causes.{call-unique, number-none}
 use Rattle.meaning.proofs.Finite.{recording-finite}
@@ -46,14 +46,14 @@ includes-none {z} {w} [] B C tight h =
     let n = h .0 w m in
     (λ i. n .1 (contains-members z (tight w (List·Memᴰ·tail m)) .1 i), λ i. n .0 (contains-members w (tight z (List·Memᴰ·head refl)) .1 i))
 
--- In the finished list lie exactly the satisfying stretches.
+-- In the finished list lie exactly the stretches that fit.
 pub comes-exact : {bytes text : List ℕ} {L : List Zone} {rounds : ℕ} → Comes bytes text (value L rounds) → Exact bytes text L
 comes-exact {bytes} {rounds = rounds} c =
     let w = evaluates-well (Shows bytes) (omega arith) (c .drill) rounds (c .evaluates) in
     record {
       drill = c .drill;
       form = c .form;
-      exact = members (Shows bytes) (recording-finite bytes 0 (ticks bytes)) (omega arith) (c .drill) rounds (c .evaluates);
+      exact = fits-members (Shows bytes) (recording-finite bytes 0 (ticks bytes)) (omega arith) (c .drill) rounds (c .evaluates);
       proper = w .proper;
       some = λ z m. tight-member (w .proper z m .tight);
       apart = λ A B C e. includes-none A B C (λ v m. w .proper v (rw e m) .tight) (rw e at (w .antichain));
@@ -76,7 +76,7 @@ module _ {bytes text : List ℕ} {answer work answer′ work′ : List ℤ} {zon
       let a = h .buffers .answer-filled in
       (l .list, l .means, e, cc)
 
-  -- And in the zones that are read back from that front lie exactly the satisfying stretches.
+  -- And in the zones that are read back from that front lie exactly the stretches that fit.
   pub call-exact : Exact bytes text (listAt (frontOf answer′ zones) 0 zones)
   call-exact =
       let c = front-call in

@@ -44,7 +44,7 @@ module _ {bytes text : List ℕ} {answer work answer′ work′ : List ℤ} {o :
   finished : returned o .number ≡ 0 → FindAs bytes text answer work (Finished (returned o .zones) (returned o .rounds)) answer′ work′
   finished e = subst (λ (p : Outcome). FindAs bytes text answer work p answer′ work′) (zero-finished o e) h
 
-  -- Demand 2: where it is accepted, some zone read back from the front of the answer holds a stretch exactly if the stretch satisfies the
+  -- Demand 2: where it is accepted, some zone read back from the front of the answer holds a stretch exactly if the stretch fits the
   -- drill; every zone is tight and inside 0..d, none is empty, none lies inside another.
   pub demand-2 : Demand2 bytes text o answer′
   demand-2 e = call-exact (finished e)

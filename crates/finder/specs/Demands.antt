@@ -7,7 +7,7 @@ use lib.IntN.{ℤ}
 use lib.ListN.{length}
 use Rattle.limit.specs.Time.{Time}
 use Rattle.zone.specs.declared.Zone.{Zone}
-use Rattle.zone.specs.Zone.{In, Stretch, Includes}
+use Rattle.zone.specs.Zone.{In, Includes}
 use Rattle.star.specs.Pieces.{Pieces}
 use Rattle.list.specs.Members.{Lies, AllProper}
 use Rattle.list.specs.Slots.{listAt}
@@ -17,7 +17,7 @@ use Rattle.runs.specs.declared.Level.{Level}
 use Rattle.expression.specs.declared.Unary.the-variants.{Star}
 use Rattle.expression.specs.Expression.{Expression, unary}
 use Rattle.expression.specs.Grammar.{Form, alternative}
-use Rattle.meaning.specs.Satisfies.{Satisfies}
+use Rattle.meaning.specs.Fits.{FitsOn, Fits}
 use Rattle.meaning.specs.Lists.{repeated, RoundsOf, Sum}
 use Rattle.calls.specs.Outcome.{Outcome, RecordingLength, RecordingHead, RecordingChange, DrillLength, DrillForm, DrillLetter, DrillRange, DrillDepth, Overflow, returned, Cause, First, NoCause, frontOf, FindAs}
 use Rattle.calls.specs.Within.{FirstWithin, NoCauseWithin, WithinAs}
@@ -40,12 +40,12 @@ pub record Demand1Within (bytes text : List ℕ) (left : ℕ) (answer work : Lis
 
 -- ==== Demand 2
 
--- some zone of the list holds a stretch inside 0..d exactly if it satisfies the drill; every zone is tight and inside 0..d, none is empty,
+-- some zone of the list holds a stretch, of any fractions, exactly if the stretch fits the drill; every zone is tight and inside 0..d, none is empty,
 -- none lies inside another, at whichever two places they stand
 pub record Exact (bytes text : List ℕ) (L : List Zone) : Type 0 where
   pub drill : Expression
   pub form : Form alternative text drill
-  pub exact : (x y : Time) → Stretch 0 (ticks bytes) x y → Lies L x y ↔ Satisfies (Shows bytes) drill x y
+  pub exact : (x y : Time) → Lies L x y ↔ Fits bytes drill x y
   pub proper : AllProper 0 (ticks bytes) L
   pub some : (z : Zone) → List·Memᴰ z L → (x : Time) × (y : Time) × In z x y
   pub apart : {z w : Zone} (A B C : List Zone) → L ≡ A ++ (z ∷ (B ++ (w ∷ C))) → (¬ Includes z w) × (¬ Includes w z)
@@ -57,13 +57,13 @@ Demand2 bytes text o answer′ = returned o .number ≡ 0 → Exact bytes text (
 -- ==== Demand 3
 
 -- of one `*` whose part repeated is f: its rounds, the last included, are at most n + d, n the zones of the finished inner list; every
--- satisfying stretch is cut into at most n + d consecutive pieces that each satisfy f
+-- stretch that fits is cut into at most n + d consecutive pieces that each fit f
 pub record Bounded (Shows : ℕ → Level → ℕ → Type 0) (from to : ℕ) (f : Expression) : Type 0 where
   pub rounds : ℕ
   pub made : RoundsOf Shows from to f rounds
   pub few : rounds ≤ length (made .inner) + (to - from)
-  pub pieces : (x y : Time) → Stretch from to x y → Satisfies Shows (unary Star f) x y
-      → (n : ℕ) × (n ≤ length (made .inner) + (to - from)) × Pieces (λ s t. Satisfies Shows f s t) n x y
+  pub pieces : (x y : Time) → FitsOn Shows from to (unary Star f) x y
+      → (n : ℕ) × (n ≤ length (made .inner) + (to - from)) × Pieces (FitsOn Shows from to f) n x y
 
 -- of a recording and a drill: every `*` written, and the sum over all of them
 pub record Total (bytes text : List ℕ) (total : ℕ) : Type 0 where

@@ -10,13 +10,13 @@ use Rattle.zone.specs.declared.MaybeZone.{MaybeZone}
 use Rattle.zone.specs.declared.MaybeZone.the-variants.{Empty as empty}
 use Rattle.words.specs.Words.{zoneAt}
 use Rattle.words.proofs.Words.{same-zone}
-use Rattle.list.specs.Insert.{Built, overflow, insert-each}
+use Rattle.list.specs.Insert.{Built, overflow, insert-each, then}
 use Rattle.list.specs.Slots.{Slot, listAt, Sound, Kept}
 use Rattle.growing.specs.declared.Growing.{Growing}
 use Rattle.growing.specs.Growth.{Alters, NoLater, Unsurpassed, Stands, Begins, Growth}
 use Rattle.list.proofs.Slots.{kept-refl, kept-trans, kept-apart, still-slot}
 use Rattle.list.proofs.Puts.{holds-same}
-use Rattle.growing.proofs.Loops.{then, insert-each-append}
+use Rattle.growing.proofs.Loops.{insert-each-append}
 use Rattle.growing.proofs.Late.{none-later}
 
 -- a zone outside the slot that is written, read from the words as they are now

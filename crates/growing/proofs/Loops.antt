@@ -6,17 +6,12 @@ use Prim.Native.Nat.{ℕ, zero, suc}
 use Rattle.zone.specs.declared.Zone.{Zone}
 use Rattle.zone.specs.declared.MaybeZone.{MaybeZone}
 use Rattle.zone.specs.declared.MaybeZone.the-variants.{Zone as zone, Empty as empty}
-use Rattle.list.specs.Insert.{Put, away, placed, overflow, insert, Built, listed, after, insert-each}
+use Rattle.list.specs.Insert.{Put, away, placed, overflow, insert, Built, after, insert-each, then}
 use Rattle.list.specs.Members.{Covered}
 use Rattle.growing.specs.Growth.{Alters}
 use Rattle.list.proofs.Coverage.{puts-keep, puts-new, placed-puts, placed-new}
 
 -- ---- puts in parts
-
--- go on with the list that was built, if there is one
-abbrev pub then : Built → (List Zone → Built) → Built
-then (listed M) next = next M
-then overflow next = overflow
 
 pub insert-each-append : (rs ss : List MaybeZone) (L : List Zone) → insert-each (rs ++ ss) L ≡ then (insert-each rs L) (insert-each ss)
 unfolding insert-each

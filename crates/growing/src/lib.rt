@@ -9,7 +9,8 @@ ghost use mathlib.Core.List.{[], _∷_};
 ghost use Rattle.zone.specs.declared.MaybeZone.the-variants.{Zone as zone};
 ghost use Rattle.zone.specs.Zone.{Ranged};
 ghost use Rattle.words.specs.Words.{zoneAt};
-ghost use Rattle.list.specs.Slots.{slot-words, Kept, InsertAs};
+ghost use Rattle.list.specs.Members.{Apart};
+ghost use Rattle.list.specs.Slots.{slot-words, listAt, Kept, InsertAs};
 ghost use Rattle.growing.specs.Growth.{Unsurpassed, Stands, Begins, NoPair, GrowsAs};
 ghost use Rattle.growing.specs.Steps.{LaterAs, Takes, GrownBy};
 
@@ -124,6 +125,16 @@ pub fn grow_words(words: &mut [i32], target: usize, g: Growing, w: &[i32; ZONE_W
     ensures kept { λ _. ⌜ Kept target slot-words (now (words .entry)) (now (words .exit)) ⌝ }
 {
     let answer = put(words, target, g, w);
+    after_put(g, answer, w)
+}
+
+// The same of a zone that lies inside no listed zone and around none: the list is not looked through.
+pub fn grow_apart(words: &mut [i32], target: usize, g: Growing, w: &[i32; ZONE_WORDS]) -> Grown
+    requires { ⌜ (Stands (now words) target g) × (Apart (zoneAt (now w) 0) (listAt (now words) target (g .count))) ⌝ }
+    ensures grown { λ r. ⌜ GrowsAs (zone (zoneAt (now (w .entry)) 0) ∷ []) NoPair g (now (words .entry)) target (now (words .exit)) r ⌝ }
+    ensures kept { λ _. ⌜ Kept target slot-words (now (words .entry)) (now (words .exit)) ⌝ }
+{
+    let answer = list::insert_apart(words, target, g.count, w);
     after_put(g, answer, w)
 }
 

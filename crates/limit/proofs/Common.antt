@@ -111,6 +111,10 @@ within-through l m x y w h k =
     let iw : Is (w .num * x .den * y .den) (x .den * y .den * w .den) w = record { same = omega arith } in
     bridge (l ⊕ m) x w h0 ix iw .1 (through (bridge l x y h0 ix iy .0 h) (bridge m y w h0 iy iw .0 k))
 
+-- a time differs from itself by no less than 0
+pub within-self : {l : Limit} (x : Time) → Within l x x → nought ≤ᴸ l
+within-self {l} x w = round (x .some) (bridge l x x (x .some) (record { same = refl }) (record { same = refl }) .0 w)
+
 -- no time is before the origin
 pub from-0 : (x : Time) → Within nought origin x
 from-0 x = bridge nought origin x (x .some) (Is-origin (x .den)) (record { same = refl }) .1 (record { keeps = rw (nought-up, nought-dn, nought-un) (omega arith) })

@@ -7,3 +7,4 @@ pub mod Means
 pub mod Steps
 pub mod Coding
 pub mod Signed
+pub mod Breaking

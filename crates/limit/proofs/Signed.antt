@@ -87,7 +87,7 @@ module _ (m : Limit) {y : ℤ} (f : SFits w32 y) (q : y ≡ code m) (h : Small m
   room-is l g p = rw (back g, back f, back rest, p, q) (room-beside l m)
 
 -- a word of a limit in range
-word-small : (a : ℤ) → Small most-sum (decode a) → mag a ≤ 8_000_001
+pub word-small : (a : ℤ) → Small most-sum (decode a) → mag a ≤ 8_000_001
 word-small a h = subst (λ (x : ℤ). mag x ≤ 8_000_001) (code-decode a) (code-small (decode a) h)
 
 -- what the sum of two words has too much

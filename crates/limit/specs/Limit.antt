@@ -41,6 +41,14 @@ AtMost a ⊕ Below b = Below (a +ℤ b)
 Below a ⊕ AtMost b = Below (a +ℤ b)
 Below a ⊕ Below b = Below (a +ℤ b)
 
+-- the limit on the negated quantity that is kept to exactly where this one is broken
+unfoldable pub broken : Limit → Limit
+broken (AtMost v) = Below (negℤ v)
+broken (Below v) = AtMost (negℤ v)
+
+pub record IsBroken (l m : Limit) : Type 0 where
+  pub within : (x y : Time) → Within m y x ↔ ¬ Within l x y
+
 -- 0, reached
 abbrev pub nought : Limit
 nought = AtMost (pos 0)

@@ -6,7 +6,7 @@ ghost use mathlib.Core.Path.{_≡_};
 ghost use Prim.Native.Nat.{_≤_};
 ghost use lib.IntN.{pos, negℤ, _+ℤ_, _-ℤ_};
 ghost use lib.Signed.{mag};
-ghost use Rattle.limit.specs.Limit.{at-most, lesser, greater, _⊕_, nought, most, least, less, more, IsMost, IsLeast, IsLess, IsMore, most-ticks, most-sum, code, decode, Small};
+ghost use Rattle.limit.specs.Limit.{at-most, lesser, greater, _⊕_, nought, broken, IsBroken, most, least, less, more, IsMost, IsLeast, IsLess, IsMore, most-ticks, most-sum, code, decode, Small};
 
 // An upper limit: reached (non-strict) or not reached (strict), with its whole number.
 pub enum Limit {
@@ -75,6 +75,15 @@ pub fn room(word: i32, negated: i32) -> bool
     ensures { λ r. ⌜ r ≡ at-most nought (decode word ⊕ decode negated) ⌝ }
 {
     2 - negated <= word
+}
+
+// The word of the limit on the negated quantity that is kept to exactly where the limit of this word is broken.
+pub fn broken(word: i32) -> i32
+    requires { ⌜ Small most-sum (decode word) ⌝ }
+    ensures value { λ r. ⌜ r ≡ code (broken (decode word)) ⌝ }
+    ensures meaning { λ r. ⌜ IsBroken (decode word) (decode r) ⌝ }
+{
+    1 - word
 }
 
 impl Limit {

@@ -56,7 +56,7 @@ covered-within a b i c = (c .0, c .1, contains-trans (c .0) b a (c .2) i)
 
 -- ---- the listed zones outside z
 
-outside-mem : (z : Zone) (L : List Zone) {y : Zone} → List·Memᴰ y (outside z L) → List·Memᴰ y L × (¬ T (contains z y))
+pub outside-mem : (z : Zone) (L : List Zone) {y : Zone} → List·Memᴰ y (outside z L) → List·Memᴰ y L × (¬ T (contains z y))
 unfolding outside
 outside-mem z [] m = absurd (not-nil m)
 outside-mem z (a ∷ L) {y} m = go (λ n. outside-mem z L n) (contains z a) refl m

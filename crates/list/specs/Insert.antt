@@ -49,3 +49,8 @@ unfoldable pub insert-each : List MaybeZone → List Zone → Built
 insert-each [] L = listed L
 insert-each (empty ∷ rest) L = insert-each rest L
 insert-each (zone z ∷ rest) L = after (insert z L) L (λ M. insert-each rest M)
+
+-- go on with the list that was built, if there is one
+abbrev pub then : Built → (List Zone → Built) → Built
+then (listed M) next = next M
+then overflow next = overflow

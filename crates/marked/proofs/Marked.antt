@@ -1,7 +1,7 @@
 -- The marked set, computed from R's bytes and the drills' texts.
 use mathlib.Core.Path.{_≡_, refl, sym, subst}
 use mathlib.Core.Bool.{true, false}
-use mathlib.Core.Logic.{_↔_, _⊎_, ⊎-map}
+use mathlib.Core.Logic.{_↔_, _⊎_}
 use mathlib.Core.List.{List, [], _∷_, _++_, List·Memᴰ, List·Memᴰ·head, List·Memᴰ·tail, List·Memᴰ·not-nil as not-nil}
 use Prim.Native.Nat.{ℕ, _+_, _-_, _*_, _≤_, min}
 use native.Mathlib.Omega.{arith}
@@ -11,11 +11,13 @@ use lib.IntN.{ℤ}
 use lib.ListN.{length}
 use Rattle.limit.specs.Time.{Time, atTick, _≤ᵀ_, _≈ᵀ_}
 use Rattle.zone.specs.declared.Zone.{Zone}
-use Rattle.limit.specs.Limit.{lesser, _⊕_}
+use Rattle.limit.specs.Limit.{lesser, _⊕_, broken}
 use Rattle.zone.specs.Zone.{Stretch, tighter, where-room, tighten, both, meet, across, compose, run, diagonal, everything, limited, band as bandOf}
 use Rattle.words.specs.Words.{zone-words}
 use Rattle.list.specs.Insert.{covered, outside, insert, insert-each}
 use Rattle.pairs.specs.Pairs.{pairs}
+use Rattle.parts.specs.Parts.{of-limits, also, part, parts-on}
+use Rattle.absence.specs.Absence.{parts-each, without, without-each, absent}
 use Rattle.operators.specs.Operators.{union as unite, meets, compositions, banded}
 use Rattle.recording.specs.Reading.{tick, le16, le32, ticks, channels}
 use Rattle.recording.specs.Changes.{begins}
@@ -37,10 +39,10 @@ use Rattle.expression.specs.declared.Sign.the-variants.{High, Low}
 use Rattle.expression.specs.declared.Join.the-variants.{Union}
 use Rattle.expression.specs.declared.Unary.the-variants.{Star}
 use Rattle.text.specs.Text.{ascii}
-use Rattle.parser.specs.Readers.{width, wrong}
+use Rattle.leaves.specs.Reading.{width, wrong}
 use Rattle.descent.proofs.Complete.{whole-sound, unique}
 use Rattle.parser.proofs.Parses.{right-length, accepted}
-use Rattle.meaning.specs.Satisfies.{Satisfies}
+use Rattle.meaning.specs.Fits.{Fits}
 use Rattle.meaning.proofs.Reported.{either-level}
 use Rattle.meaning.specs.Lists.{value, ended, Then.goes, runZones, Letter, momentZones, Moments, Evaluates}
 use Rattle.outcome.specs.declared.Outcome.the-variants.{Finished}
@@ -128,6 +130,7 @@ each (h ⨾ hs) (List·Memᴰ·tail m) = each hs m
 pub marked-set : (x : Row) → List·Memᴰ x marked → RowHolds x
 unfolding tick le32 le16 descent read height branch bind starts rest expect ranged signed digits numeral numbered bound upperEnd limits postfixes width wrong depth
     lesser _⊕_ tighter where-room tighten both meet across compose run diagonal everything limited bandOf covered outside insert insert-each endsBefore unite pairs meets compositions banded
+    of-limits also broken part parts-on parts-each without without-each absent
 marked-set x =
     let a = spelt (example .highs-are) in
     let not-a = spelt (example .lows-are) in
@@ -154,6 +157,8 @@ marked-set x =
     ⨾ gives refl refl (goes fall (goes (goes not-a refl refl) refl refl) refl)
     ⨾ gives refl refl (goes a (goes fall refl refl) refl)
     ⨾ gives refl refl (goes rise refl refl)
+    ⨾ gives refl refl (goes a refl refl)
+    ⨾ gives refl refl (goes (goes a (goes (goes a refl refl) refl refl) refl) refl refl)
     ⨾ refl
     ⨾ refl
     ⨾ refl
@@ -164,10 +169,8 @@ marked-set x =
 
 -- "`(a|!a)*` on R now fits the diagonal and every stretch from tick 2 on": of the stretches themselves, whatever zones they are listed in.
 pub either-level-on-R : (drill : Expression) → Form alternative (ascii "(a|!a)*") drill
-    → (x y : Time) → Stretch 0 (ticks R) x y → Satisfies (Shows R) drill x y ↔ ((x ≈ᵀ y) ⊎ (atTick 2 ≤ᵀ x))
+    → (x y : Time) → Fits R drill x y ↔ (Stretch 0 (ticks R) x y × ((x ≈ᵀ y) ⊎ (atTick 2 ≤ᵀ x)))
 unfolding tick le32 le16 begins descent read height branch bind starts rest expect ranged signed postfixes
-either-level-on-R drill form x y inside =
+either-level-on-R drill form x y =
     let is : drill ≡ unary Star (join Union (literal High 0) (literal Low 0)) = unique form (whole-sound (ascii "(a|!a)*") _ refl) in
-    let h = either-level (example .read .1) 0 x y in
-    subst (λ (e : Expression). Satisfies (Shows R) e x y ↔ ((x ≈ᵀ y) ⊎ (atTick 2 ≤ᵀ x))) (sym is)
-    (λ s. ⊎-map (λ e. e) (λ i. i .0) (h .0 s), λ s. h .1 (⊎-map (λ e. e) (λ i. (i, inside .1, inside .2)) s))
+    subst (λ (e : Expression). Fits R e x y ↔ (Stretch 0 (ticks R) x y × ((x ≈ᵀ y) ⊎ (atTick 2 ≤ᵀ x)))) (sym is) (either-level (example .read .1) 0 x y)

@@ -43,7 +43,7 @@ pub record Interval : Type 0 where
   pub upper : Limit
 
 -- "a square bracket is reached, a round one is not": `⟦ 2 ‥ 7 ⟯` is the paper's [2,7), whose brackets antt keeps for itself
-infix 80 ⟦_‥_⟧ ⟦_‥_⟯ ⟮_‥_⟧
+infix 80 ⟦_‥_⟧ ⟦_‥_⟯ ⟮_‥_⟧ ⟮_‥_⟯
 abbrev pub ⟦_‥_⟧ : ℕ → ℕ → Interval
 ⟦ lo ‥ hi ⟧ = record { lower = AtMost (negℤ (pos lo)); upper = AtMost (pos hi) }
 
@@ -52,6 +52,9 @@ abbrev pub ⟦_‥_⟯ : ℕ → ℕ → Interval
 
 abbrev pub ⟮_‥_⟧ : ℕ → ℕ → Interval
 ⟮ lo ‥ hi ⟧ = record { lower = Below (negℤ (pos lo)); upper = AtMost (pos hi) }
+
+abbrev pub ⟮_‥_⟯ : ℕ → ℕ → Interval
+⟮ lo ‥ hi ⟯ = record { lower = Below (negℤ (pos lo)); upper = Below (pos hi) }
 
 -- "the range of its start, end and length in ticks"
 infix 75 start_end_length_
@@ -89,6 +92,14 @@ marked =
     ∷ drill "-a.!a{0,3}" number 0 rounds 0 zones (start ⟦ 7 ‥ 7 ⟧ end ⟮ 7 ‥ 10 ⟧ length ⟮ 0 ‥ 3 ⟧ ∷ [])
     ∷ drill "a.-a" number 0 rounds 0 zones (start ⟦ 2 ‥ 7 ⟯ end ⟦ 7 ‥ 7 ⟧ length ⟮ 0 ‥ 5 ⟧ ∷ [])
     ∷ drill "+a{1,}" number 0 rounds 0 zones []
+    ∷ drill "~a" number 0 rounds 0 zones (
+    start ⟦ 7 ‥ 10 ⟧ end ⟦ 7 ‥ 10 ⟧ length ⟦ 0 ‥ 3 ⟧
+    ∷ start ⟦ 0 ‥ 2 ⟯ end ⟦ 0 ‥ 10 ⟧ length ⟦ 0 ‥ 10 ⟧
+    ∷ start ⟦ 2 ‥ 7 ⟯ end ⟮ 7 ‥ 10 ⟧ length ⟮ 0 ‥ 8 ⟧
+    ∷ start ⟦ 2 ‥ 2 ⟧ end ⟦ 2 ‥ 2 ⟧ length ⟦ 0 ‥ 0 ⟧
+    ∷ start ⟮ 2 ‥ 7 ⟯ end ⟮ 2 ‥ 7 ⟯ length ⟦ 0 ‥ 0 ⟧
+    ∷ [])
+    ∷ drill "~(a|~a)" number 0 rounds 0 zones []
     ∷ 24 ms-is-tick 2
     ∷ 25 ms-is-tick 2
     ∷ 5 ms-is-tick 0

@@ -11,9 +11,11 @@ use Rattle.zone.proofs.Laws.{proper-run, proper-within, proper-diagonal}
 use Rattle.list.specs.Insert as puts
 use Rattle.list.specs.Insert.{Built, listed, insert-each}
 use Rattle.operators.specs.Operators.{union as unite, meets, compositions, banded}
+use Rattle.absence.specs.Absence.{absent}
 use Rattle.purse.proofs.Values.{begun-with}
 use Rattle.list.proofs.Theorems.{WellFormed, built-well}
 use Rattle.operators.proofs.Theorems.{union-well, meets-well, compositions-well, banded-well}
+use Rattle.absence.proofs.Theorems.{absent-well}
 use Rattle.star.proofs.Theorems.{star-well, star-unique, star-exists}
 use Rattle.runs.specs.declared.Level.{Level}
 use Rattle.runs.specs.declared.Run.{Run}
@@ -25,7 +27,7 @@ use Rattle.runs.proofs.Runs.{runs-unique, Complete}
 use Rattle.runs.proofs.Events.{events-unique}
 use Rattle.expression.specs.declared.Sign.the-variants.{High, Low, Rise, Fall}
 use Rattle.expression.specs.declared.Join.the-variants.{Union, Intersection, Concatenation}
-use Rattle.expression.specs.declared.Unary.the-variants.{Star, Band}
+use Rattle.expression.specs.declared.Unary.the-variants.{Star, Band, Absence}
 use Rattle.expression.specs.Expression.{Expression, epsilon, literal, join, unary}
 use Rattle.meaning.specs.Lists.{Value, value, overflow, begun, with-rounds, ended, Then, Then.goes, Then.stops, Both, runZones, Letter, momentZone, momentZones, Moments, rangeBand, joinList, Evaluates}
 
@@ -77,6 +79,7 @@ module _ (Shows : ℕ → Level → ℕ → Type 0) (from to : ℕ) where
   evaluates-unique (join j e f) v w p q = both-one (joinList j) (evaluates-unique e) (evaluates-unique f) v w p q
   evaluates-unique (unary Star e) v w p q = then-one (evaluates-unique e) (λ A a b m n. star-unique m n) v w p q
   evaluates-unique (unary (Band r) e) v w p q = then-one (evaluates-unique e) (λ A a b m n. m ∙ sym n) v w p q
+  evaluates-unique (unary Absence e) v w p q = then-one (evaluates-unique e) (λ A a b m n. m ∙ sym n) v w p q
 
 -- ---- the list is well formed
 
@@ -173,6 +176,8 @@ module _ (Shows : ℕ → Level → ℕ → Type 0) {from to : ℕ} (order : fro
   evaluates-well (unary (Band r) e) t p =
       let q = then-parts p in
       banded-well (rangeBand from to r) (q .0) (evaluates-well e _ (q .3) .proper) (listed-of (banded (rangeBand from to r) (q .0)) (q .4) .0)
+  evaluates-well (unary Absence e) t p =
+      let q = then-parts p in absent-well from to (q .0) (listed-of (absent from to (q .0)) (q .4) .0) order
 
 -- ---- some value
 
@@ -210,6 +215,7 @@ module _ {Shows : ℕ → Level → ℕ → Type 0} {from to : ℕ} (finite : Fi
       then-some (evaluates-exists e)
       (λ A r p. star-exists (evaluates-well Shows (omega arith) e r p .proper) some (diagonal from to))
   evaluates-exists (unary (Band r) e) = then-some (evaluates-exists e) (λ A s _. (ended (banded (rangeBand from to r) A), refl))
+  evaluates-exists (unary Absence e) = then-some (evaluates-exists e) (λ A s _. (ended (absent from to A), refl))
 
 -- ---- the rounds begun
 

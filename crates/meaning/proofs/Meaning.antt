@@ -16,7 +16,7 @@ use Rattle.expression.specs.declared.Upper.{Upper}
 use Rattle.expression.specs.declared.Upper.the-variants.{Endless, UpTo}
 use Rattle.expression.specs.declared.Sign.the-variants.{High, Low, Rise, Fall}
 use Rattle.expression.specs.declared.Join.the-variants.{Union, Intersection, Concatenation}
-use Rattle.expression.specs.declared.Unary.the-variants.{Star, Band}
+use Rattle.expression.specs.declared.Unary.the-variants.{Star, Band, Absence}
 use Rattle.expression.specs.Expression.{Expression, epsilon, literal, join, unary}
 use Rattle.meaning.specs.Satisfies.{Throughout, Moment, upperLimit, lowerLimit, NoLonger, Satisfies}
 use Rattle.meaning.proofs.Strict.{<-same, <-trans, ≤-<-trans, <-≤-trans, common, tick-next}
@@ -96,6 +96,8 @@ module _ (Shows : ℕ → Level → ℕ → Type 0) where
   satisfies-same (unary Star e) x y u v p q h = (h .0, pieces-same (satisfies-same e) p q (h .1))
   satisfies-same (unary (Band r) e) x y u v p q h =
       (satisfies-same e x y u v p q (h .0), (within-same (lowerLimit (r .lo)) p q (h .1 .0), no-longer-same (r .hi) p q (h .1 .1)))
+  satisfies-same (unary Absence e) x y u v p q h =
+      (≤-trans (≈-≤ p .1) (≤-trans (h .0) (≈-≤ q .0)), λ k. h .1 (satisfies-same e u v x y (≈-sym p) (≈-sym q) k))
 
   -- A satisfying stretch has start ≤ end.
   pub satisfies-forward : (e : Expression) (x y : Time) → Satisfies Shows e x y → x ≤ᵀ y
@@ -109,3 +111,4 @@ module _ (Shows : ℕ → Level → ℕ → Type 0) where
   satisfies-forward (join Concatenation e f) x y h = ≤-trans (h .1) (h .2)
   satisfies-forward (unary Star e) x y h = pieces-forward (satisfies-forward e) (h .1)
   satisfies-forward (unary (Band r) e) x y h = satisfies-forward e x y (h .0)
+  satisfies-forward (unary Absence e) x y h = h .0

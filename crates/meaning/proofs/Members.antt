@@ -1,7 +1,7 @@
 -- The stretches inside from..to that lie in the list of an expression are those that satisfy it.
 use mathlib.Core.Path.{_≡_, sym, subst}
 use mathlib.Core.Logic.{_↔_, ⊎-map, ⊎-elim, Iff·trans}
-use mathlib.Core.List.{List, [], _∷_, List·Memᴰ, Memᴰ·map, Memᴰ·of-map}
+use mathlib.Core.List.{List, [], _∷_, map, List·Memᴰ, Memᴰ·map, Memᴰ·of-map}
 use Prim.Native.Nat.{ℕ, suc, _≤_}
 use native.Mathlib.Omega.{arith}
 use Rattle.limit.specs.Time.{Time, atTick, _≤ᵀ_, _<ᵀ_, _≈ᵀ_}
@@ -14,32 +14,44 @@ use Rattle.limit.proofs.Times.{≤-trans, ≤-total, ≈-≤, ≤-≈, ≈-sym,
 use Rattle.zone.proofs.Laws.{run-members, diagonal-members, band-members, whole-most}
 use Rattle.list.specs.Insert.{listed, insert-each}
 use Rattle.operators.specs.Operators.{union as unite, meets, compositions, banded}
+use Rattle.absence.specs.Absence.{absent}
 use Rattle.star.specs.Pieces.{Pieces, Pieces.none, Pieces.more}
 use Rattle.list.specs.Members.{Lies, AllProper}
+use Rattle.list.proofs.Coverage.{Offered}
 use Rattle.list.proofs.Members.{offered-one}
 use Rattle.list.proofs.Theorems.{built-lies}
 use Rattle.operators.proofs.Theorems.{union-lies, meets-lies, compositions-lies, banded-lies}
+use Rattle.absence.proofs.Theorems.{absent-lies}
 use Rattle.star.proofs.Theorems.{star-lies}
 use Rattle.runs.specs.declared.Level.{Level}
 use Rattle.runs.specs.declared.Level.the-variants as level
 use Rattle.runs.specs.declared.Run.{Run}
+use Rattle.runs.specs.Events.{Events}
 use Rattle.runs.proofs.Runs.{runs-unique, Complete, Held}
 use Rattle.expression.specs.declared.Range.{Range}
 use Rattle.expression.specs.declared.Upper.{Upper}
 use Rattle.expression.specs.declared.Upper.the-variants.{Endless, UpTo}
 use Rattle.expression.specs.declared.Sign.the-variants.{High, Low, Rise, Fall}
 use Rattle.expression.specs.declared.Join.the-variants.{Union, Intersection, Concatenation}
-use Rattle.expression.specs.declared.Unary.the-variants.{Star, Band}
+use Rattle.expression.specs.declared.Unary.the-variants.{Star, Band, Absence}
 use Rattle.expression.specs.Expression.{Expression, epsilon, literal, join, unary}
 use Rattle.meaning.specs.Satisfies.{Throughout, Moment, lowerLimit, NoLonger, Lasts, Satisfies}
+use Rattle.meaning.specs.Fits.{FitsOn}
 use Rattle.meaning.specs.Lists.{value, runZones, Letter, momentZone, momentZones, Moments, longest, rangeBand, Evaluates}
 use Rattle.meaning.proofs.Strict.{≤-<-trans, <-≤-trans, tick-<, tick-≤-back, floor, floor-≤, floor-<}
 use Rattle.meaning.proofs.Meaning.{pieces-forward, satisfies-forward}
 use Rattle.meaning.proofs.Evaluation.{FiniteVariability, listed-of, then-parts, both-parts, letter-parts, moments-parts, evaluates-well}
 
 -- what lies in a list of proper zones is inside from..to
-lies-inside : {from to : ℕ} {L : List Zone} {x y : Time} → AllProper from to L → Lies L x y → Stretch from to x y
+pub lies-inside : {from to : ℕ} {L : List Zone} {x y : Time} → AllProper from to L → Lies L x y → Stretch from to x y
 lies-inside {x = x} {y = y} h l = h (l .in-zone) (l .among) .inside .inside x y (l .member)
+
+-- what lies in the zones that are put, one of each
+offered-map : {A : Type 0} (f : A → Zone) (xs : List A) (x y : Time) → Offered (map (λ a. zone (f a)) xs) x y ↔ ((a : A) × List·Memᴰ a xs × In (f a) x y)
+offered-map f xs x y = (
+  λ o. let k = Memᴰ·of-map (λ a. zone (f a)) xs (o .1) in (k .0, k .1, subst (λ (z : MaybeZone). InMaybe z x y) (sym (k .2)) (o .2)),
+  λ h. (zone (f (h .0)), Memᴰ·map (λ a. zone (f a)) (h .1), h .2),
+)
 
 -- ---- a letter
 
@@ -63,21 +75,24 @@ module _ {P : ℕ → Type 0} {from to : ℕ} (runs : (rs : List Run) × Complet
           let next : x <ᵀ atTick (suc (k .holder .end)) = <-≤-trans (floor-< x) (tick-≤ (let d = k .before in omega arith)) in
           ⊎-elim (λ q. q) (λ q. absurd (m .right (tick-< (<-≤-trans q (s .2))) (h .each (k .holder .end) next q))) (≤-total y (atTick (k .holder .end)))
 
+  -- in the runs lie the stretches in whose every tick it holds
+  pub runs-members : {x y : Time} → Stretch from to x y → ((r : Run) × List·Memᴰ r (runs .0) × In (run (r .start) (r .end)) x y) ↔ Throughout P x y
+  runs-members {x} {y} s = (
+    λ h. let m = runs .1 .runs .each (h .0) (h .1) in
+        let i = run-members (h .0 .start) (h .0 .end) x y .0 (h .2) in
+        record {
+          some = i .1;
+          each = λ n a b. m .holds n (let d = tick-< (≤-<-trans (i .0) a) in omega arith) (tick-< (<-≤-trans b (i .2)));
+        },
+    within-run s,
+  )
+
   letter-members : {L : List Zone} {t : ℕ} {x y : Time} → Letter P from to (value L t) → Stretch from to x y → Lies L x y ↔ Throughout P x y
-  letter-members {L} {t} {x} {y} p s =
+  letter-members {x = x} {y = y} p s =
       let q = letter-parts p in
       let same : q .0 ≡ runs .0 = runs-unique (q .1) (runs .1 .runs) in
-      Iff·trans (built-lies (runZones (q .0)) (q .2) x y) (
-        λ o. let k = Memᴰ·of-map (λ (r : Run). zone (run (r .start) (r .end))) (q .0) (o .1) in
-            let m = q .1 .each (k .0) (k .1) in
-            let i = run-members (k .0 .start) (k .0 .end) x y .0 (subst (λ (z : MaybeZone). InMaybe z x y) (sym (k .2)) (o .2)) in
-            record {
-              some = i .1;
-              each = λ n a b. m .holds n (let d = tick-< (≤-<-trans (i .0) a) in omega arith) (tick-< (<-≤-trans b (i .2)));
-            },
-        λ h. let w = within-run s h in
-            (zone (run (w .0 .start) (w .0 .end)), Memᴰ·map (λ (r : Run). zone (run (r .start) (r .end))) (subst (List·Memᴰ (w .0)) (sym same) (w .1)), w .2),
-      )
+      Iff·trans (built-lies (runZones (q .0)) (q .2) x y) (Iff·trans (offered-map (λ (r : Run). run (r .start) (r .end)) (q .0) x y)
+      (subst (λ (rs : List Run). ((r : Run) × List·Memᴰ r rs × In (run (r .start) (r .end)) x y) ↔ Throughout P x y) (sym same) (runs-members s)))
 
 -- ---- an event
 
@@ -89,17 +104,22 @@ moment-zone s {x} {y} =
       λ h. d .1 (≈-≤ (h .0) .1, ≈-trans (h .0) (≈-sym (h .1)), ≈-≤ (h .1) .0),
     )
 
+-- in the moments lie the events
+pub events-members : {P Q : ℕ → Type 0} {from to : ℕ} (events : (ss : List ℕ) × Events P Q from to ss) {x y : Time} → Stretch from to x y
+    → ((n : ℕ) × List·Memᴰ n (events .0) × In (momentZone n) x y) ↔ Moment P Q x y
+events-members events s = (
+  λ h. let i = moment-zone (h .0) .0 (h .2) in record { at = h .0; start = i .0; end = i .1; event = events .1 .each (h .0) (h .1) .2 },
+  λ h. (
+    h .at,
+    events .1 .all (h .at) (tick-≤-back (≤-trans (s .0) (≈-≤ (h .start) .0))) (tick-≤-back (≤-trans (≈-≤ (h .end) .1) (s .2))) (h .event),
+    moment-zone (h .at) .1 (h .start, h .end),
+  ),
+)
+
 moments-members : {P Q : ℕ → Type 0} {from to : ℕ} {L : List Zone} {t : ℕ} {x y : Time} → Moments P Q from to (value L t) → Stretch from to x y → Lies L x y ↔ Moment P Q x y
-moments-members {from = from} {to = to} {x = x} {y = y} p s =
+moments-members {x = x} {y = y} p s =
     let q = moments-parts p in
-    Iff·trans (built-lies (momentZones (q .0)) (q .2) x y) (
-      λ o. let k = Memᴰ·of-map (λ (s : ℕ). zone (momentZone s)) (q .0) (o .1) in
-          let m = moment-zone (k .0) .0 (subst (λ (z : MaybeZone). InMaybe z x y) (sym (k .2)) (o .2)) in
-          record { at = k .0; start = m .0; end = m .1; event = q .1 .each (k .0) (k .1) .2 },
-      λ h. let a : from ≤ h .at = tick-≤-back (≤-trans (s .0) (≈-≤ (h .start) .0)) in
-          let b : h .at ≤ to = tick-≤-back (≤-trans (≈-≤ (h .end) .1) (s .2)) in
-          (zone (momentZone (h .at)), Memᴰ·map (λ (s : ℕ). zone (momentZone s)) (q .1 .all (h .at) a b (h .event)), moment-zone (h .at) .1 (h .start, h .end)),
-    )
+    Iff·trans (built-lies (momentZones (q .0)) (q .2) x y) (Iff·trans (offered-map momentZone (q .0) x y) (events-members (q .0, q .1) s))
 
 -- ---- a band
 
@@ -134,7 +154,7 @@ module _ {P Q : Time → Time → Type 0} where
       (f t y (≤-trans (s .0) a, b, s .2) p)
 
 -- where a list of proper zones holds the stretches of a kind, it is cut into pieces as they are
-pieces-iff : {from to : ℕ} {A : List Zone} {S : Time → Time → Type 0} → AllProper from to A → ((u v : Time) → S u v → u ≤ᵀ v)
+pub pieces-iff : {from to : ℕ} {A : List Zone} {S : Time → Time → Type 0} → AllProper from to A → ((u v : Time) → S u v → u ≤ᵀ v)
     → ((u v : Time) → Stretch from to u v → Lies A u v ↔ S u v) → {x y : Time} → Stretch from to x y → (n : ℕ) → Pieces (Lies A) n x y ↔ Pieces S n x y
 pieces-iff w fw same s n = (pieces-map (λ u v l. same u v (lies-inside w l) .0 l), pieces-inside fw (λ u v i. same u v i .1) s)
 
@@ -188,6 +208,14 @@ module _ (Shows : ℕ → Level → ℕ → Type 0) {from to : ℕ} (finite : Fi
       let b = range-band r order s in
       Iff·trans (banded-lies (rangeBand from to r) (q .0) (listed-of (banded (rangeBand from to r) (q .0)) (q .4) .0) x y)
       (λ l. (a .0 (l .0), b .0 (l .1)), λ h. (a .1 (h .0), b .1 (h .1)))
+  members (unary Absence e) t p x y s =
+      let q = then-parts p in
+      let a = members e _ (q .3) x y s in
+      Iff·trans (absent-lies from to (q .0) (listed-of (absent from to (q .0)) (q .4) .0) x y s) (λ n. (s .1, λ h. n (a .1 h)), λ h l. h .1 (a .0 l))
+
+  -- So what lies in the list is what fits.
+  pub fits-members : (e : Expression) (t : ℕ) {L : List Zone} → Evaluates Shows from to e (value L t) → (x y : Time) → Lies L x y ↔ FitsOn Shows from to e x y
+  fits-members e t p x y = (λ l. let s = lies-inside (evaluates-well Shows order e t p .proper) l in (s, members e t p x y s .0 l), λ h. members e t p x y (h .0) .1 (h .1))
 
   -- and its list is cut into pieces as the expression is
   pub pieces-members : (f : Expression) (t : ℕ) {A : List Zone} → Evaluates Shows from to f (value A t)

@@ -11,14 +11,13 @@ use Rattle.star.specs.Pieces.{Pieces, Pieces.none, Pieces.more}
 use Rattle.recording.specs.Reading.{ticks, IsRecording}
 use Rattle.recording.specs.Changes.{begins}
 use Rattle.recording.specs.declared.Dimensions.{Dimensions}
-use Rattle.runs.specs.declared.Level.{Level}
-use Rattle.runs.specs.Levels.{Shows}
 use Rattle.runs.proofs.Levels.{since, reported}
 use Rattle.expression.specs.declared.Sign.the-variants.{High, Low}
 use Rattle.expression.specs.declared.Join.the-variants.{Union}
 use Rattle.expression.specs.declared.Unary.the-variants.{Star}
 use Rattle.expression.specs.Expression.{literal, join, unary}
-use Rattle.meaning.specs.Satisfies.{Throughout, Satisfies}
+use Rattle.meaning.specs.Satisfies.{Throughout}
+use Rattle.meaning.specs.Fits.{Fits}
 use Rattle.meaning.proofs.Strict.{≤-<-trans, <-≤-trans, tick-<, floor, floor-≤, floor-<}
 
 -- what holds only in the ticks from..to holds throughout a stretch only inside them
@@ -76,10 +75,12 @@ module _ {P Q : ℕ → Type 0} {from to : ℕ} (either : (n : ℕ) → (P n ⊎
 -- of bytes that were read as a recording
 module _ {bytes : List ℕ} {size : Dimensions} (read : IsRecording bytes size) where
   -- "neither `a` nor `!a` fits a stretch that overlaps those ticks"
-  pub letter-reported : {channel : ℕ} {level : Level} {x y : Time} → Throughout (Shows bytes channel level) x y → Stretch (begins bytes 1) (ticks bytes) x y
-  letter-reported h = throughout-inside (λ n s. since read s) h
+  pub letter-reported : {channel : ℕ} {x y : Time} → Fits bytes (literal High channel) x y ⊎ Fits bytes (literal Low channel) x y → Stretch (begins bytes 1) (ticks bytes) x y
+  letter-reported h = ⊎-elim (λ f. throughout-inside (λ n s. since read s) (f .1)) (λ f. throughout-inside (λ n s. since read s) (f .1)) h
 
   -- `(a|!a)*` fits the diagonal, and each stretch from the tick of the first change on.
   pub either-level : (channel : ℕ) (x y : Time)
-      → Satisfies (Shows bytes) (unary Star (join Union (literal High channel) (literal Low channel))) x y ↔ ((x ≈ᵀ y) ⊎ Stretch (begins bytes 1) (ticks bytes) x y)
-  either-level channel x y = pieces-exactly (reported read channel) x y
+      → Fits bytes (unary Star (join Union (literal High channel) (literal Low channel))) x y ↔ (Stretch 0 (ticks bytes) x y × ((x ≈ᵀ y) ⊎ (atTick (begins bytes 1) ≤ᵀ x)))
+  either-level channel x y =
+      let p = pieces-exactly (reported read channel) x y in
+      (λ h. (h .0, ⊎-map (λ e. e) (λ s. s .0) (p .0 (h .1))), λ h. (h .0, p .1 (⊎-map (λ e. e) (λ i. (i, h .0 .1, h .0 .2)) (h .1))))

@@ -8,22 +8,23 @@ use lib.ListN.{length, length-append}
 use Rattle.limit.specs.Time.{Time}
 use Rattle.zone.specs.declared.Zone.{Zone}
 use Rattle.zone.specs.declared.MaybeZone.the-variants.{Zone as zone}
-use Rattle.zone.specs.Zone.{Stretch, diagonal}
+use Rattle.zone.specs.Zone.{diagonal}
 use Rattle.list.specs.Insert as puts
 use Rattle.list.specs.Insert.{capacity, Built, listed, insert-each}
 use Rattle.operators.specs.Operators.{banded}
+use Rattle.absence.specs.Absence.{absent}
 use Rattle.purse.proofs.Values.{begun-with, spent-with}
 use Rattle.star.specs.Star.{Star as Stars}
 use Rattle.star.specs.Pieces.{Pieces}
 use Rattle.star.proofs.Theorems.{star-lies, star-unique, star-bound, star-begun, star-almost, star-pieces}
 use Rattle.runs.specs.declared.Level.{Level}
 use Rattle.expression.specs.declared.Sign.the-variants.{High, Low, Rise, Fall}
-use Rattle.expression.specs.declared.Unary.the-variants.{Star, Band}
+use Rattle.expression.specs.declared.Unary.the-variants.{Star, Band, Absence}
 use Rattle.expression.specs.Expression.{Expression, epsilon, literal, join, unary, depth}
-use Rattle.meaning.specs.Satisfies.{Satisfies}
+use Rattle.meaning.specs.Fits.{FitsOn}
 use Rattle.meaning.specs.Lists.{Value, value, overflow, begun, spent, ended, Then, Then.goes, Then.stops, Both, rangeBand, joinList, Evaluates, runZones, momentZones, repeated, RoundsOf, Sum, Sum.none, Sum.also}
 use Rattle.meaning.proofs.Evaluation.{FiniteVariability, listed-of, letter-parts, moments-parts, then-parts, both-parts, evaluates-unique, evaluates-well}
-use Rattle.meaning.proofs.Members.{pieces-members}
+use Rattle.meaning.proofs.Members.{pieces-map, fits-members, pieces-members}
 
 -- ---- sums
 
@@ -42,6 +43,14 @@ module _ {P : Expression → ℕ → Type 0} where
   pub sum-unique : ((f : Expression) (k l : ℕ) → P f k → P f l → k ≡ l) → {fs : List Expression} {m n : ℕ} → Sum P fs m → Sum P fs n → m ≡ n
   sum-unique one none none = refl
   sum-unique one (also {f = f} p s) (also q t) = let a = one f _ _ p q in let b = sum-unique one s t in omega arith
+
+-- an operator that is built without rounds has those of its operand
+then-built : (build : List Zone → Built) {operand : Value → Type 0} {P : ℕ → Type 0} → ((A : List Zone) (n : ℕ) → operand (value A n) → P n)
+    → {L : List Zone} {t : ℕ} → Then operand (λ A w. w ≡ ended (build A)) (value L t) → P t
+then-built build {P = P} below p =
+    let q = then-parts p in
+    let n = listed-of (build (q .0)) (q .4) .1 in
+    subst P (let h = q .5 in omega arith) (below (q .0) (q .1) (q .3))
 
 module _ (Shows : ℕ → Level → ℕ → Type 0) {from to : ℕ} where
   -- A `*` has one number of rounds.
@@ -66,10 +75,8 @@ module _ (Shows : ℕ → Level → ℕ → Type 0) {from to : ℕ} where
       let q = then-parts p in
       let w : RoundsOf Shows from to e (q .2) = record { inner = q .0; before = q .1; list = q .3; outer = L; star = q .4 } in
       subst (Sum (RoundsOf Shows from to) (e ∷ repeated e)) (let h = q .5 in omega arith) (also w (evaluates-sum e _ _ (q .3)))
-  evaluates-sum (unary (Band r) e) L t p =
-      let q = then-parts p in
-      let n = listed-of (banded (rangeBand from to r) (q .0)) (q .4) .1 in
-      subst (Sum (RoundsOf Shows from to) (repeated e)) (let h = q .5 in omega arith) (evaluates-sum e _ _ (q .3))
+  evaluates-sum (unary (Band r) e) L t p = then-built (λ A. banded (rangeBand from to r) A) (λ A n. evaluates-sum e A n) p
+  evaluates-sum (unary Absence e) L t p = then-built (λ A. absent from to A) (λ A n. evaluates-sum e A n) p
 
 -- ---- one repetition
 
@@ -78,17 +85,18 @@ module _ (Shows : ℕ → Level → ℕ → Type 0) {from to : ℕ} (some : from
   pub rounds-of-bound : {f : Expression} {k : ℕ} (w : RoundsOf Shows from to f k) → k ≤ length (w .inner) + (to - from)
   rounds-of-bound {f} w = star-bound (evaluates-well Shows (omega arith) f _ (w .list) .proper) some (w .star)
 
-  -- Every stretch inside from..to that satisfies it is cut into at most so many consecutive pieces that each satisfy the part repeated.
+  -- Every stretch that fits it is cut into at most so many consecutive pieces that each fit the part repeated.
   pub rounds-of-pieces : FiniteVariability Shows from to → {f : Expression} {k : ℕ} (w : RoundsOf Shows from to f k)
-      → (x y : Time) → Stretch from to x y → Satisfies Shows (unary Star f) x y
-      → (n : ℕ) × (n ≤ length (w .inner) + (to - from)) × Pieces (λ u v. Satisfies Shows f u v) n x y
-  rounds-of-pieces finite {f} w x y s h =
+      → (x y : Time) → FitsOn Shows from to (unary Star f) x y
+      → (n : ℕ) × (n ≤ length (w .inner) + (to - from)) × Pieces (FitsOn Shows from to f) n x y
+  rounds-of-pieces finite {f} w x y h =
       let order : from ≤ to = omega arith in
-      let i = pieces-members Shows finite order f _ (w .list) s in
+      let s = h .0 in
+      let m = h .1 in
       let a = evaluates-well Shows order f _ (w .list) .proper in
-      let l = star-lies (w .star) a x y (s .0) (s .2) .1 (h .0, i (h .0) .1 (h .1)) in
+      let l = star-lies (w .star) a x y (s .0) (s .2) .1 (m .0, pieces-members Shows finite order f _ (w .list) s (m .0) .1 (m .1)) in
       let c = star-pieces a some (w .star) x y l in
-      (c .0, c .1, i (c .0) .0 (c .2))
+      (c .0, c .1, pieces-map (λ u v i. fits-members Shows finite order f _ (w .list) u v .0 i) (c .2))
 
 -- ---- a bound on the total
 
@@ -114,6 +122,7 @@ repeated-few (literal s k) = omega arith
 repeated-few (join j e f) = both-few e f (repeated-few e) (repeated-few f)
 repeated-few (unary Star e) = one-few e (repeated-few e)
 repeated-few (unary (Band r) e) = let h = one-few e (repeated-few e) in omega arith
+repeated-few (unary Absence e) = let h = one-few e (repeated-few e) in omega arith
 
 -- ---- the rounds begun
 
@@ -157,6 +166,7 @@ module _ (Shows : ℕ → Level → ℕ → Type 0) (from to : ℕ) where
   begun-almost (join j e f) v p = then-almost (begun-almost e) (λ A. then-almost (begun-almost f) (λ B w q. built-almost (joinList j A B) q)) v p
   begun-almost (unary Star e) v p = then-almost (begun-almost e) (λ A w s. star-almost s) v p
   begun-almost (unary (Band r) e) v p = then-almost (begun-almost e) (λ A w q. built-almost (banded (rangeBand from to r) A) q) v p
+  begun-almost (unary Absence e) v p = then-almost (begun-almost e) (λ A w q. built-almost (absent from to A) q) v p
 
 module _ (Shows : ℕ → Level → ℕ → Type 0) {from to : ℕ} (some : from < to) where
   -- The rounds begun on the way to any value are at most 128 + (to − from) for each `*` written.
@@ -173,6 +183,7 @@ module _ (Shows : ℕ → Level → ℕ → Type 0) {from to : ℕ} (some : from
       star-few : (A : List Zone) (r : ℕ) → Evaluates Shows from to e (value A r) → (w : Value) → Stars A (diagonal from to) w → begun w ≤ capacity + (to - from)
       star-few A r q w s = let l = evaluates-well Shows (omega arith) e r q in let h = star-begun (l .proper) some s in omega (arith, l .short)
   begun-few (unary (Band r) e) v p = omega (arith, then-few {n = 0} (begun-few e) (λ A s _ w q. let b = built-begun (banded (rangeBand from to r) A) q in omega arith) v p)
+  begun-few (unary Absence e) v p = omega (arith, then-few {n = 0} (begun-few e) (λ A s _ w q. let b = built-begun (absent from to A) q in omega arith) v p)
 
   -- So they are at most that for each `*` that an expression of its depth has room for.
   pub rounds-bound : (e : Expression) (v : Value) → Evaluates Shows from to e v → begun v ≤ 2 ^ depth e * (capacity + (to - from))

@@ -12,6 +12,7 @@ use Rattle.zone.specs.Zone.{run, diagonal, band as bandOf}
 use Rattle.list.specs.Insert.{Built, insert-each}
 pub use Rattle.purse.specs.Value.{Value, value, overflow, begun, spent, with-rounds, ended}
 use Rattle.operators.specs.Operators.{union as unite, meets, compositions, banded}
+use Rattle.absence.specs.Absence.{absent}
 use Rattle.star.specs.Star.{Star as Stars}
 use Rattle.runs.specs.declared.Level.{Level}
 use Rattle.runs.specs.declared.Level.the-variants.{High, Low}
@@ -26,7 +27,7 @@ use Rattle.expression.specs.declared.Sign.the-variants.{Rise, Fall}
 use Rattle.expression.specs.declared.Join.{Join}
 use Rattle.expression.specs.declared.Join.the-variants.{Union, Intersection, Concatenation}
 use Rattle.expression.specs.declared.Unary.{Unary}
-use Rattle.expression.specs.declared.Unary.the-variants.{Star, Band}
+use Rattle.expression.specs.declared.Unary.the-variants.{Star, Band, Absence}
 use Rattle.expression.specs.Expression.{Expression, epsilon, literal, join, unary}
 use Rattle.meaning.specs.Satisfies.{upperLimit, lowerLimit}
 
@@ -77,10 +78,12 @@ joinList Union = unite
 joinList Intersection = meets
 joinList Concatenation = compositions
 
--- "`*`: begin with the inner list. A round .. Then the diagonal is put"; "`{lo,hi}`: put each zone's meet with the band"
+-- "`*`: begin with the inner list. A round .. Then the diagonal is put"; "`{lo,hi}`: put each zone's meet with the band"; `~`: "Begin with one
+-- zone, all stretches. For each zone of the operand in order, each listed zone is replaced by its parts"
 abbrev pub applied : ℕ → ℕ → Unary → List Zone → Value → Type 0
 applied from to Star A v = Stars A (diagonal from to) v
 applied from to (Band range) A v = v ≡ ended (banded (rangeBand from to range) A)
+applied from to Absence A v = v ≡ ended (absent from to A)
 
 -- the expression comes to the value
 abbrev pub Evaluates : (Shows : ℕ → Level → ℕ → Type 0) (from to : ℕ) → Expression → Value → Type 0
@@ -103,6 +106,7 @@ repeated (literal s k) = []
 repeated (join j e f) = repeated e ++ repeated f
 repeated (unary Star e) = e ∷ repeated e
 repeated (unary (Band r) e) = repeated e
+repeated (unary Absence e) = repeated e
 
 -- the `*` of f has k rounds: "The rounds of a `*` are all that this rule makes from its inner list, the last included"
 pub record RoundsOf (Shows : ℕ → Level → ℕ → Type 0) (from to : ℕ) (f : Expression) (k : ℕ) : Type 0 where

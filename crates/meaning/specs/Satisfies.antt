@@ -1,4 +1,4 @@
--- "What a stretch satisfies": Definition 3 of document 004, and of events CR 3, over any levels and all times. `Shows k level n` says that
+-- "What a stretch satisfies": Definition 3 of document 004, of events CR 3 and of absence CR 7, over any levels and all times. `Shows k level n` says that
 -- channel k has the level in tick n.
 use mathlib.Core.Logic.{_⊎_}
 use Prim.Native.Nat.{ℕ, suc}
@@ -17,7 +17,7 @@ use Rattle.expression.specs.declared.Upper.the-variants.{Endless, UpTo}
 use Rattle.expression.specs.declared.Sign.the-variants as sign
 use Rattle.expression.specs.declared.Sign.the-variants.{Rise, Fall}
 use Rattle.expression.specs.declared.Join.the-variants.{Union, Intersection, Concatenation}
-use Rattle.expression.specs.declared.Unary.the-variants.{Star, Band}
+use Rattle.expression.specs.declared.Unary.the-variants.{Star, Band, Absence}
 use Rattle.expression.specs.Expression.{Expression, epsilon, literal, join, unary}
 
 -- "start < end, and the channel is high in each tick that the open stretch overlaps": of what is said of a tick
@@ -70,3 +70,5 @@ Satisfies Shows (join Concatenation e f) x y = (t : Time) × (x ≤ᵀ t) × (t 
 Satisfies Shows (unary Star e) x y = (n : ℕ) × Pieces (λ s t. Satisfies Shows e s t) n x y
 -- "also lo ≤ end − start ≤ hi", or < where it is written
 Satisfies Shows (unary (Band r) e) x y = Satisfies Shows e x y × Lasts r x y
+-- "fits each stretch .. that the repeat does not fit". "inside the recording" is said by `Fits`
+Satisfies Shows (unary Absence e) x y = (x ≤ᵀ y) × ¬ Satisfies Shows e x y

@@ -11,7 +11,7 @@ use Rattle.zone.specs.declared.MaybeZone.the-variants.{Zone as zone}
 use Rattle.zone.specs.Zone.{Proper}
 use Rattle.words.specs.Words.{zoneAt, codes, overwrite}
 use Rattle.words.proofs.Words.{written-zone}
-use Rattle.list.specs.Insert.{Built, overflow, insert-each}
+use Rattle.list.specs.Insert.{Built, overflow, insert-each, then}
 use Rattle.operators.specs.Operators.{union}
 use Rattle.list.specs.Slots.{listAt, Kept, Sound}
 use Rattle.operators.specs.Listing.{Listing}
@@ -20,7 +20,7 @@ use Rattle.growing.specs.Growth.{Begins, Stands, Growth}
 use Rattle.list.proofs.Slots.{listAt-next, kept-within, kept-written}
 use Rattle.growing.proofs.Going.{begun-stands}
 use Rattle.pairs.specs.Operands.{Operands}
-use Rattle.growing.proofs.Loops.{then, insert-each-append}
+use Rattle.growing.proofs.Loops.{insert-each-append}
 
 -- ---- an empty list that grew
 
@@ -65,15 +65,15 @@ module _ (A B : List Zone) where
     pub union-listing : {Counts : ℕ → Type 0} {g h : Growing} {L : List Zone} {vs : List ℤ} → Growth (insert-each (map zone B′) (listAt us target k)) Counts g L vs target h → Listing (union A B) vs target (h .count)
     union-listing w = record { list = w .list; value = then-right ∙ w .value; holds = w .holds }
 
--- ---- the band, written into a slot of its own
+-- ---- one zone, written into a slot of its own
 
 module _ (z : Zone) (ws : List ℤ) (scratch : ℕ) (fits : scratch + 768 ≤ length ws) {us : List ℤ} (e : us ≡ overwrite ws scratch (codes z)) where
-  pub band-kept : Kept scratch 768 ws us
-  band-kept = subst (λ (xs : List ℤ). Kept scratch 768 ws xs) (sym e) (kept-within (omega arith) (omega arith) (kept-written ws scratch z (omega arith)))
+  pub written-kept : Kept scratch 768 ws us
+  written-kept = subst (λ (xs : List ℤ). Kept scratch 768 ws xs) (sym e) (kept-within (omega arith) (omega arith) (kept-written ws scratch z (omega arith)))
 
-  pub band-alone : listAt us scratch 1 ≡ z ∷ []
+  pub written-alone : listAt us scratch 1 ≡ z ∷ []
   unfolding listAt
-  band-alone = ap (λ (xs : List ℤ). zoneAt xs scratch ∷ []) e ∙ ap (λ (y : Zone). y ∷ []) (written-zone ws scratch z (omega arith))
+  written-alone = ap (λ (xs : List ℤ). zoneAt xs scratch ∷ []) e ∙ ap (λ (y : Zone). y ∷ []) (written-zone ws scratch z (omega arith))
 
-pub sound-band : {z : Zone} → Proper 0 1_000_000 z → Sound (z ∷ [])
-sound-band {z} p y m = subst (Proper 0 1_000_000) (sym (mathlib.Core.List.List·Memᴰ·eq-of-singleton m)) p
+pub sound-one : {z : Zone} → Proper 0 1_000_000 z → Sound (z ∷ [])
+sound-one {z} p y m = subst (Proper 0 1_000_000) (sym (mathlib.Core.List.List·Memᴰ·eq-of-singleton m)) p

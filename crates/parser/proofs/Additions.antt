@@ -1,4 +1,4 @@
--- What a node adds to a part that is read: one account for the joins, for `*` and bands, and for letters.
+-- What a node adds to a part that is read, of the joins and of the operators with one operand; and what brackets add.
 use mathlib.Core.Path.{_≡_, refl, sym, ap, _∙_}
 use mathlib.Core.Bool.{Bool, true, false}
 use mathlib.Core.List.{List}
@@ -6,69 +6,39 @@ use Prim.Native.Nat.{ℕ, suc, _+_, _*_, _<_, _≤_}
 use native.Mathlib.Omega.{arith}
 use lib.ListN.{length, drop}
 use Rattle.trees.specs.declared.Tree.{Tree}
-use Rattle.parser.specs.declared.Read.{Read}
-use Rattle.parser.specs.declared.Read.the-variants.{Part, Stop}
-use Rattle.expression.specs.declared.Node.{Node}
-use Rattle.expression.specs.declared.Node.the-variants.{Epsilon, Literal, Infix, Applied}
-use Rattle.expression.specs.declared.Sign.{Sign}
+use Rattle.leaves.specs.declared.Read.{Read}
+use Rattle.leaves.specs.declared.Read.the-variants.{Part, Stop}
+use Rattle.expression.specs.declared.Node.the-variants.{Infix, Applied}
 use Rattle.expression.specs.declared.Join.{Join}
 use Rattle.expression.specs.declared.Join.the-variants.{Union}
 use Rattle.expression.specs.declared.Unary.{Unary}
-use Rattle.expression.specs.Expression.{Expression, epsilon, literal, join, unary, depth}
-use Rattle.expression.specs.Stored.{nodeAt, Stored, stored-epsilon, stored-literal, stored-join, stored-unary, FrontKept, Placed}
-use Rattle.tokens.specs.Tokens.{Got, no, yes, branch, bind, starts, expect, postfix, lettered, cappedUnary, Got-at, Letter-at}
-use Rattle.descent.specs.Descent.{symbol, Rank, joining, repeating, single, below, descent}
-use Rattle.trees.specs.Trees.{over, beside, around, nothing}
-use Rattle.parser.specs.Readers.{capped, wrongUnary, width, wrong, Reached, ReadAs, ClosedAs}
+use Rattle.expression.specs.declared.Unary.the-variants.{Absence}
+use Rattle.expression.specs.Expression.{Expression, join, unary, depth}
+use Rattle.expression.specs.Stored.{stored-join, stored-unary, FrontKept, Placed}
+use Rattle.tokens.specs.Tokens.{Got, no, yes, branch, bind, starts, expect, postfix, cappedUnary, Got-at}
+use Rattle.descent.specs.Descent.{symbol, Rank, joining, factoring, repeating, single, below, descent}
+use Rattle.trees.specs.Trees.{over, beside, around}
+use Rattle.leaves.specs.Reading.{capped, wrongUnary, width, wrong, Reached, ReadAs}
+use Rattle.parser.specs.Readers.{ClosedAs}
 use Rattle.tokens.proofs.Text.{rest-drop}
-use Rattle.descent.proofs.Steps.{joinsAfter, postfixesAfter, joining-is, repeating-is, single-is, joins-on, joins-off, postfixes-on, postfixes-off}
+use Rattle.descent.proofs.Steps.{joinsAfter, postfixesAfter, joining-is, factoring-is, repeating-is, single-is, joins-on, joins-off, postfixes-on, postfixes-off}
 use Rattle.expression.proofs.Nodes.{kept-refl, kept-trans, stored-keep}
+use Rattle.leaves.proofs.Parts.{adds, again}
 
--- a node at the free place, over what `under` sums up
-adds : {k : Rank} {after : Expression → List ℕ → Got Expression} {text before ns ns' : List ℕ} {at used : ℕ} {new : Tree} {node : Node} (under : Tree) (e : Expression)
-    → at < under .at → under .at ≤ length text → under .used + at + 1 ≤ under .at + used → used ≤ under .used → under .depth ≤ under .used
-    → FrontKept (used * 4) before ns → Placed (under .used) node ns ns'
-    → Stored ns' (under .used) (capped e) → depth e ≡ suc (under .depth) → width e ≡ under .width → wrong e ≡ under .wrong
-    → descent k (drop at text) ≡ after e (drop (under .at) text)
-    → new ≡ over under → Reached k after text at used before ns' new
-adds under e a i f g s k p st de wi wr re is =
-    rw is
-    (record {
-      ahead = a;
-      inside = i;
-      few = omega arith;
-      grown = omega arith;
-      rooted = omega arith;
-      shallow = omega arith;
-      kept = kept-trans (omega arith) k (p .front);
-      e = e;
-      stored = st;
-      depth-is = omega (arith, de);
-      width-is = sym wi;
-      wrong-is = sym wr;
-      read = re;
-    })
-
--- the same part, seen from another level, with another rest, or from words before it
-again : {k k' : Rank} {after after' : Expression → List ℕ → Got Expression} {text before before' ns : List ℕ} {at used : ℕ} {tree : Tree}
-    → (s : Reached k after text at used before ns tree) → FrontKept (used * 4) before' ns → descent k' (drop at text) ≡ after' (s .e) (drop (tree .at) text)
-    → Reached k' after' text at used before' ns tree
-again s k h =
-    record {
-      ahead = s .ahead;
-      inside = s .inside;
-      few = s .few;
-      grown = s .grown;
-      rooted = s .rooted;
-      shallow = s .shallow;
-      kept = k;
-      e = s .e;
-      stored = s .stored;
-      depth-is = s .depth-is;
-      width-is = s .width-is;
-      wrong-is = s .wrong-is;
-      read = h;
-    }
+-- The node of an operator with one operand, over a part that begins at `from`. The operator has some text: from `at` on before the part, or up to b
+-- after it.
+applies : {k k' : Rank} {after after' : Expression → List ℕ → Got Expression} {text before ns ns' : List ℕ} {at from used : ℕ} {tree new : Tree} {u : Unary} {w : Bool}
+    (b : ℕ) (x : Unary) (s : Reached k' after' text from used before ns tree)
+    → at ≤ from → tree .at ≤ b → tree .at + at < b + from → b ≤ length text
+    → u ≡ cappedUnary x → w ≡ wrongUnary x → new ≡ over (around tree b w) → Placed (tree .used) (Applied u (tree .root)) ns ns'
+    → descent k (drop at text) ≡ after (unary x (s .e)) (drop b text) → Reached k after text at used before ns' new
+unfolding capped depth width wrong
+applies {tree = tree} {w = w} b x s a e t i u-is w-is is p re =
+    let low : tree .root * 4 + 4 ≤ tree .used * 4 = omega (arith, s .rooted) in
+    adds (around tree b w) (unary x (s .e)) (omega (arith, s .ahead)) i (omega (arith, s .few)) (s .grown) (s .shallow) (s .kept) p
+    (stored-unary (p .placed ∙ ap (λ (v : Unary). Applied v (tree .root)) u-is) (s .rooted) (stored-keep low (p .front) (s .stored)))
+    (rw (s .depth-is)) (sym (s .width-is)) (rw (w-is, s .wrong-is))
+    re is
 
 -- JOINS
 
@@ -118,6 +88,34 @@ module _ (j : Join) where
           (goes ∙ rw (r .read))
           is
 
+-- FACTORS
+
+module _ (text : List ℕ) (at : ℕ) where
+  -- no `~`: a factor is its repeat
+  pub untilded-as : (used : ℕ) (before ns : List ℕ) → starts 126 (drop at text) ≡ false
+      → (r : Read) → ReadAs repeating text at used before ns r → ReadAs factoring text at used before ns r
+  unfolding branch
+  untilded-as used before ns m Stop e = factoring-is (drop at text) ∙ rw m e
+  untilded-as used before ns m (Part t) s = again s (s .kept) (factoring-is (drop at text) ∙ rw m (s .read))
+
+  -- a `~`
+  module _ (m : starts 126 (drop at text) ≡ true) (l : at < length text) where
+    tilded : descent factoring (drop at text) ≡ bind (descent repeating (drop (at + 1) text)) (λ e r. yes (unary Absence e) r)
+    unfolding branch
+    tilded = factoring-is (drop at text) ∙ rw (m, rest-drop text at l)
+
+    pub tilded-stop : descent repeating (drop (at + 1) text) ≡ no → descent factoring (drop at text) ≡ no
+    unfolding bind
+    tilded-stop e = tilded ∙ rw e
+
+    -- the node over the repeat
+    pub tilded-on : {used : ℕ} {before ns ns' : List ℕ} {inner new : Tree} → Reached repeating yes text (at + 1) used before ns inner
+        → new ≡ over (around inner (inner .at) false) → Placed (inner .used) (Applied Absence (inner .root)) ns ns'
+        → Reached factoring yes text at used before ns' new
+    unfolding bind
+    tilded-on {inner = inner} s is p =
+        applies (inner .at) Absence s (omega arith) (omega arith) (omega arith) (s .inside) refl refl is p (tilded ∙ rw (s .read))
+
 -- `*` AND BANDS
 
 pub postfixes-begin : {text before ns : List ℕ} {at used : ℕ} {tree : Tree}
@@ -137,72 +135,40 @@ module _ {text before ns : List ℕ} {at used : ℕ} {tree : Tree} (s : Reached 
   pub postfixes-on-to : {ns' : List ℕ} {new : Tree} {b : ℕ} {u : Unary} {w : Bool} → (x : Got-at postfix cappedUnary text (tree .at) b u)
       → w ≡ wrongUnary (x .x) → new ≡ over (around tree b w) → Placed (tree .used) (Applied u (tree .root)) ns ns'
       → Reached repeating postfixesAfter text at used before ns' new
-  unfolding capped depth width wrong
-  postfixes-on-to {b = b} {w = w} x w-is is p =
-      let low : tree .root * 4 + 4 ≤ tree .used * 4 = omega (arith, s .rooted) in
-      adds (around tree b w) (unary (x .x) (s .e)) (omega (arith, s .ahead, x .ahead)) (x .inside) (omega (arith, s .few, x .ahead)) (s .grown) (s .shallow) (s .kept) p
-      (stored-unary (p .placed ∙ ap (λ (v : Unary). Applied v (tree .root)) (x .is)) (s .rooted) (stored-keep low (p .front) (s .stored)))
-      (rw (s .depth-is)) (sym (s .width-is)) (rw (w-is, s .wrong-is))
-      (s .read ∙ postfixes-on (s .e) (drop (tree .at) text) (x .read)) is
+  postfixes-on-to {b = b} x w-is is p =
+      applies b (x .x) s (omega arith) (omega (arith, x .ahead)) (omega (arith, x .ahead)) (x .inside) (x .is) w-is is p
+      (s .read ∙ postfixes-on (s .e) (drop (tree .at) text) (x .read))
 
--- PRIMARIES
+-- BRACKETS
 
-module _ (text : List ℕ) (at : ℕ) where
-  -- no `_`
-  module _ (m : starts 95 (drop at text) ≡ false) where
-    -- a bracket
-    module _ (m' : starts 40 (drop at text) ≡ true) (l : at < length text) where
-      bracketed : descent single (drop at text) ≡ bind (descent (joining Union) (drop (at + 1) text)) (λ e r. expect 41 e r)
-      unfolding branch
-      bracketed = single-is (drop at text) ∙ rw (m, m', rest-drop text at l)
+module _ (text : List ℕ) (at : ℕ) (m : starts 40 (drop at text) ≡ true) (l : at < length text) where
+  bracketed : descent single (drop at text) ≡ bind (descent (joining Union) (drop (at + 1) text)) (λ e r. expect 41 e r)
+  unfolding branch
+  bracketed = single-is (drop at text) ∙ rw (m, rest-drop text at l)
 
-      pub bracketed-stop : descent (joining Union) (drop (at + 1) text) ≡ no → descent single (drop at text) ≡ no
-      unfolding bind
-      bracketed-stop e = bracketed ∙ rw e
+  pub bracketed-stop : descent (joining Union) (drop (at + 1) text) ≡ no → descent single (drop at text) ≡ no
+  unfolding bind
+  bracketed-stop e = bracketed ∙ rw e
 
-      -- what follows the inner part decides
-      pub bracketed-as : {used : ℕ} {before ns : List ℕ} {inner : Tree} → Reached (joining Union) yes text (at + 1) used before ns inner
-          → (r : Read) → ClosedAs text inner r → ReadAs single text at used before ns r
-      unfolding bind expect branch
-      bracketed-as {inner = inner} s Stop e = bracketed ∙ rw (s .read) (rw e)
-      bracketed-as {inner = inner} s (Part t) (e, h, is) =
-          rw is
-          (record {
-            ahead = omega (arith, s .ahead);
-            inside = omega arith;
-            few = omega (arith, s .few);
-            grown = s .grown;
-            rooted = s .rooted;
-            shallow = s .shallow;
-            kept = s .kept;
-            e = s .e;
-            stored = s .stored;
-            depth-is = s .depth-is;
-            width-is = s .width-is;
-            wrong-is = s .wrong-is;
-            read = bracketed ∙ rw (s .read) (rw (e, rest-drop text (inner .at) h));
-          })
-
-    -- no bracket: what is left is a letter
-    pub plain : starts 40 (drop at text) ≡ false → descent single (drop at text) ≡ lettered (drop at text)
-    unfolding branch
-    plain m' = single-is (drop at text) ∙ rw (m, m')
-
-  module _ (used : ℕ) {ns ns' : List ℕ} where
-    -- a node without operands
-    leaves : {node : Node} {b w : ℕ} (e : Expression) → at < b → b ≤ length text → Placed used node ns ns'
-        → (nodeAt ns' used ≡ node → Stored ns' used (capped e)) → depth e ≡ 1 → width e ≡ w → wrong e ≡ false
-        → descent single (drop at text) ≡ yes e (drop b text) → Reached single yes text at used ns ns' (over (nothing b used w))
-    leaves {b = b} {w = w} e a i p st de wi wr re =
-        adds (nothing b used w) e a i (omega arith) (omega arith) (omega arith) (kept-refl _ _) p (st (p .placed)) de wi wr re refl
-
-    pub leaf-epsilon : starts 95 (drop at text) ≡ true → at < length text → Placed used Epsilon ns ns'
-        → Reached single yes text at used ns ns' (over (nothing (at + 1) used 0))
-    unfolding capped depth width wrong branch
-    leaf-epsilon m l p = leaves epsilon (omega arith) (omega arith) p stored-epsilon refl refl refl (single-is (drop at text) ∙ rw (m, rest-drop text at l))
-
-    pub leaf-letter : {a k : ℕ} {s : Sign} → starts 95 (drop at text) ≡ false → starts 40 (drop at text) ≡ false → Letter-at text at a s k
-        → Placed used (Literal s k) ns ns' → Reached single yes text at used ns ns' (over (nothing a used (k + 1)))
-    unfolding capped depth width wrong
-    leaf-letter {k = k} {s = s} m m' o p =
-        leaves (literal s k) (o .ahead) (o .inside) p stored-literal refl (omega arith) refl (plain m m' ∙ o .read)
+  -- what follows the inner part decides
+  pub bracketed-as : {used : ℕ} {before ns : List ℕ} {inner : Tree} → Reached (joining Union) yes text (at + 1) used before ns inner
+      → (r : Read) → ClosedAs text inner r → ReadAs single text at used before ns r
+  unfolding bind expect branch
+  bracketed-as {inner = inner} s Stop e = bracketed ∙ rw (s .read) (rw e)
+  bracketed-as {inner = inner} s (Part t) (e, h, is) =
+      rw is
+      (record {
+        ahead = omega (arith, s .ahead);
+        inside = omega arith;
+        few = omega (arith, s .few);
+        grown = s .grown;
+        rooted = s .rooted;
+        shallow = s .shallow;
+        kept = s .kept;
+        e = s .e;
+        stored = s .stored;
+        depth-is = s .depth-is;
+        width-is = s .width-is;
+        wrong-is = s .wrong-is;
+        read = bracketed ∙ rw (s .read) (rw (e, rest-drop text (inner .at) h));
+      })

@@ -13,11 +13,11 @@ use Rattle.expression.specs.declared.End.the-variants.{Closed, Open}
 use Rattle.expression.specs.declared.Upper.{Upper}
 use Rattle.expression.specs.declared.Upper.the-variants.{Endless, UpTo}
 use Rattle.expression.specs.declared.Unary.{Unary}
-use Rattle.expression.specs.declared.Unary.the-variants.{Star, Band}
+use Rattle.expression.specs.declared.Unary.the-variants.{Star, Band, Absence}
 use Rattle.expression.specs.Expression.{Expression, epsilon, literal, join, unary, letters, ranges}
 use Rattle.expression.specs.Refusal.{figure, Opened, WrongUpper, Wrong}
 use Rattle.tokens.specs.Tokens.{cap, cappedEnd, cappedUpper, cappedRange, cappedUnary}
-use Rattle.parser.specs.Readers.{capped, width, opened, wrongUpper, wrongRange, wrongUnary, wrong}
+use Rattle.leaves.specs.Reading.{capped, width, opened, wrongUpper, wrongRange, wrongUnary, wrong}
 use Rattle.expression.proofs.Ranges.{false-true}
 
 or-some : (a b : Bool) → (a || b) ≡ true → (a ≡ true) ⊎ (b ≡ true)
@@ -136,6 +136,7 @@ range-wrong (unary Star e) h = range-wrong e h
 range-wrong (unary (Band r) e) h =
     ⊎-elim (λ w. (r, List·Memᴰ·head refl, wrong-range-some r w)) (λ w. let a = range-wrong e w in (a .0, List·Memᴰ·tail (a .1), a .2))
     (or-some (wrongRange r) (wrong e) h)
+range-wrong (unary Absence e) h = range-wrong e h
 
 join-none : (e f : Expression) {r : Range} → (wrong e ≡ false → List·Memᴰ r (ranges e) → Wrong r → ⊥) → (wrong f ≡ false → List·Memᴰ r (ranges f) → Wrong r → ⊥)
     → (wrong e || wrong f) ≡ false → List·Memᴰ r (ranges e ++ ranges f) → Wrong r → ⊥
@@ -150,6 +151,7 @@ range-right (unary Star e) h m w = range-right e h m w
 range-right (unary (Band s) e) {r} h m w =
     let a = or-none (wrongRange s) (wrong e) h in
     ⊎-elim (λ x. wrong-range-none r (rw x (a .0)) w) (λ x. range-right e (a .1) x w) (List·Memᴰ·cases-cons m)
+range-right (unary Absence e) h m w = range-right e h m w
 
 -- THE CAP
 
@@ -192,6 +194,7 @@ capped-wrong r = go (r .lo) (r .hi)
 pub capped-wrong-unary : (u : Unary) → wrongUnary (cappedUnary u) ≡ wrongUnary u
 capped-wrong-unary Star = refl
 capped-wrong-unary (Band r) = capped-wrong r
+capped-wrong-unary Absence = refl
 
 capped-end : (e : End) → ltb 1000000 (figure e) ≡ false → cappedEnd e ≡ e
 capped-end (Closed n) h = ap Closed (cap-same n h)
@@ -212,3 +215,4 @@ capped-same (unary (Band r) e) h =
     let a = or-none (wrongRange r) (wrong e) h in
     let b = or-none (ltb 1000000 (figure (r .lo))) (wrongUpper (r .lo) (r .hi)) (a .0) in
     rw (capped-same e (a .1), capped-end (r .lo) (b .0), capped-upper (r .lo) (r .hi) (b .1))
+capped-same (unary Absence e) h = rw (capped-same e h)

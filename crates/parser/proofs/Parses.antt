@@ -18,7 +18,8 @@ use Rattle.expression.specs.Stored.{Stored}
 use Rattle.parser.specs.Parsing.{ParsedAs}
 use Rattle.tokens.specs.Tokens.{Got, no, yes}
 use Rattle.descent.specs.Descent.{joining, descent}
-use Rattle.parser.specs.Readers.{width, wrong, Reached, verdict}
+use Rattle.leaves.specs.Reading.{width, wrong, Reached}
+use Rattle.parser.specs.Readers.{verdict}
 use Rattle.tokens.proofs.Text.{no-yes, yes-text}
 use Rattle.descent.proofs.Complete.{whole-sound, whole-complete, unique}
 use Rattle.parser.proofs.Checks.{letter-below, letter-beyond, range-wrong, range-right, capped-same}

@@ -1,13 +1,12 @@
 // Reads the text of a drill into a tree of nodes in a lent buffer of words, or says which of the causes 4 to 8 of
 // document 01 refuses it. Nothing is known here of recordings: the channel count is a number.
 //
-// specs/Parsing.antt says what the answer is. The readers of the grammar's levels (alternative, conjunction, sequence, repeat,
-// primary) call each other in a cycle; each reads the text from `at` on, and tells where it ends. What stands at a place of the
-// text is read in `tokens`, and `trees` puts the nodes together.
+// specs/Parsing.antt says what the answer is. The readers of the grammar's levels (alternative, conjunction, sequence, factor,
+// repeat, primary) call each other in a cycle; each reads the text from `at` on, and tells where it ends. What stands at a place of
+// the text is read in `tokens`, a primary without brackets in `leaves`, and `trees` puts the nodes together.
 use expression::Join;
-use expression::Node;
 use expression::Unary;
-use tokens::Lettered;
+use leaves::Read;
 use tokens::Postfix;
 use trees::Tree;
 ghost use mathlib.Core.Path.{_≡_};
@@ -15,8 +14,9 @@ ghost use Prim.Native.Nat.{_*_, _≤_, _<_, min};
 ghost use lib.ListN.{length};
 ghost use Rattle.expression.specs.declared.Join.the-variants.{Union, Intersection, Concatenation};
 ghost use Rattle.parser.specs.Parsing.{ParsedAs};
-ghost use Rattle.descent.specs.Descent.{symbol as symbolOf, joining, repeating, single, below};
-ghost use Rattle.parser.specs.Readers.{wrongUnary, ClosedAs, Ready, ReadAs, verdict};
+ghost use Rattle.descent.specs.Descent.{symbol as symbolOf, joining, factoring, repeating, single, below};
+ghost use Rattle.leaves.specs.Reading.{wrongUnary, Ready, ReadAs};
+ghost use Rattle.parser.specs.Readers.{ClosedAs, verdict};
 
 // The root of the tree, or the refusal.
 pub enum Parsed {
@@ -28,12 +28,6 @@ pub enum Parsed {
     TooDeep,
 }
 
-// What a reader of a level comes to.
-enum Read {
-    Part(Tree),
-    Stop,
-}
-
 // The range of a band is wrong.
 fn wrong_operator(op: Unary) -> bool
     ensures { λ r. ⌜ r ≡ wrongUnary op ⌝ }
@@ -41,6 +35,7 @@ fn wrong_operator(op: Unary) -> bool
     match op {
         Unary::Star => false,
         Unary::Band(range) => expression::is_wrong(range),
+        Unary::Absence => false,
     }
 }
 
@@ -60,7 +55,7 @@ fn conjunction(text: &[u8], at: usize, nodes: &mut [u32], used: u32) -> Read
     chain(text, at, nodes, used, Join::Intersection)
 }
 
-// Repeats joined by `.`.
+// Factors joined by `.`.
 fn sequence(text: &[u8], at: usize, nodes: &mut [u32], used: u32) -> Read
     requires { ⌜ Ready (now text) at (now nodes) used ⌝ }
     ensures { λ r. ⌜ ReadAs (joining Concatenation) (now (text .entry)) at used (now (nodes .entry)) (now (nodes .exit)) r ⌝ }
@@ -106,8 +101,22 @@ fn operand(text: &[u8], at: usize, nodes: &mut [u32], used: u32, join: Join) -> 
     match join {
         Join::Union => conjunction(text, at, nodes, used),
         Join::Intersection => sequence(text, at, nodes, used),
-        Join::Concatenation => repeat(text, at, nodes, used),
+        Join::Concatenation => factor(text, at, nodes, used),
     }
+}
+
+// A repeat, with or without a `~` before it.
+fn factor(text: &[u8], at: usize, nodes: &mut [u32], used: u32) -> Read
+    requires { ⌜ Ready (now text) at (now nodes) used ⌝ }
+    ensures { λ r. ⌜ ReadAs factoring (now (text .entry)) at used (now (nodes .entry)) (now (nodes .exit)) r ⌝ }
+{
+    if tokens::byte_is(text, at, b'~') {
+        let Read::Part(inner) = repeat(text, at + 1, nodes, used) else {
+            return Read::Stop;
+        };
+        return Read::Part(trees::over_one(nodes, Unary::Absence, inner, inner.at, false));
+    }
+    repeat(text, at, nodes, used)
 }
 
 // A primary followed by any number of `*` and `{lo,hi}`.
@@ -127,25 +136,18 @@ fn repeat(text: &[u8], at: usize, nodes: &mut [u32], used: u32) -> Read
     }
 }
 
-// `_`, a letter with its sign, or a whole alternative in round brackets.
+// A whole alternative in round brackets, or a leaf.
 fn primary(text: &[u8], at: usize, nodes: &mut [u32], used: u32) -> Read
     requires { ⌜ Ready (now text) at (now nodes) used ⌝ }
     ensures { λ r. ⌜ ReadAs single (now (text .entry)) at used (now (nodes .entry)) (now (nodes .exit)) r ⌝ }
 {
-    if tokens::byte_is(text, at, b'_') {
-        return Read::Part(trees::leaf(nodes, used, at + 1, Node::Epsilon, 0));
-    }
     if tokens::byte_is(text, at, b'(') {
         let Read::Part(inner) = alternative(text, at + 1, nodes, used) else {
             return Read::Stop;
         };
         return closed(text, inner);
     }
-    let Lettered::Letter(end, sign, channel) = tokens::letter_at(text, at) else {
-        return Read::Stop;
-    };
-    let node = Node::Literal(sign, channel);
-    Read::Part(trees::leaf(nodes, used, end, node, channel + 1))
+    leaves::leaf(text, at, nodes, used)
 }
 
 // The part with the closing bracket that has to follow it.

@@ -13,11 +13,11 @@ use Rattle.zone.specs.declared.MaybeZone.the-variants.{Zone as zone, Empty as e
 use Rattle.zone.specs.Zone.{Ranged, diagonal}
 use Rattle.zone.proofs.Laws.{proper-run, proper-diagonal, ranged, ranged-more}
 use Rattle.list.specs.Insert as puts
-use Rattle.list.specs.Insert.{Built, listed, insert, after, insert-each}
+use Rattle.list.specs.Insert.{Built, listed, insert, after, insert-each, then}
 use Rattle.list.specs.Slots.{slot-words, listAt, Kept}
 use Rattle.growing.specs.declared.Growing.{Growing}
 use Rattle.growing.specs.Growth.{Stands, Begins, NoPair, Growth}
-use Rattle.growing.proofs.Loops.{then, insert-each-append}
+use Rattle.growing.proofs.Loops.{insert-each-append}
 use Rattle.growing.proofs.Going.{begun-stands, grown-stands}
 use Rattle.list.proofs.Puts.{holds-same}
 use Rattle.list.proofs.Slots.{kept-refl, kept-trans}

@@ -126,7 +126,7 @@ module _ {from to : ℕ} {inner : List Zone} (proper : AllProper from to inner) 
                 let h₃ = below (s .0) (λ z mz. ⊎-elim (λ y. inl (tail y)) (λ y. ⊎-map head (λ x. x) (s .2 z y)) (split z mz)) in
                 omega arith
 
-    composed-bound : Composed inner m q → m ≤ length inner + (to - from)
+    pub composed-bound : Composed inner m q → m ≤ length inner + (to - from)
     composed-bound o =
         let h₁ = count [] inner o (done refl) (omega arith) (λ w n. absurd (not-nil n)) (λ z n. inr n) in
         let h₂ = span-bound (composed-proper proper o) in

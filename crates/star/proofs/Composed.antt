@@ -36,7 +36,7 @@ module _ {from to : ℕ} {inner : List Zone} (proper : AllProper from to inner) 
   composed-proper (extend {w = w} o m e) = proper-compose (composed-proper o) (proper w m) e
 
   -- composition is monotone on the left: where p lies inside a zone of L, and K covers the compositions of L, K covers those of p
-  step : {j : ℕ} {p w x : Zone} {L K : List Zone} → Composed inner j p → List·Memᴰ w inner → compose p w ≡ zone x → Covered p L → AllProper from to L
+  pub step : {j : ℕ} {p w x : Zone} {L K : List Zone} → Composed inner j p → List·Memᴰ w inner → compose p w ≡ zone x → Covered p L → AllProper from to L
       → ((v : Zone) → List·Memᴰ (zone v) (pairs Compose L inner) → Covered v K) → Covered x K
   step {w = w} {x = x} o m e c g f =
       let k = compose-mono (composed-proper o .tight) (g (c .0) (c .1) .tight) (proper w m .tight) (c .2) e in

@@ -21,14 +21,14 @@ use Rattle.list.proofs.Members.{lies, offered-one}
 
 module _ {from to : ℕ} {inner : List Zone} (proper : AllProper from to inner) where
   -- a stretch in a composition of j inner zones is cut into j pieces
-  composed-pieces : {j : ℕ} {z : Zone} → Composed inner j z → (x y : Time) → In z x y → Pieces (Lies inner) j x y
+  pub composed-pieces : {j : ℕ} {z : Zone} → Composed inner j z → (x y : Time) → In z x y → Pieces (Lies inner) j x y
   composed-pieces (single m) x y i = more (none (≈-refl x)) (lies m i)
   composed-pieces (extend {w = w} o m e) x y i =
       let c = compose-cut (composed-proper proper o .tight) (proper w m .tight) e x y i in
       more (composed-pieces o x (c .0) (c .1)) (lies m (c .2))
 
   -- a stretch that is cut into pieces is a point, or lies in a composition of inner zones
-  pieces-composed : {n : ℕ} {x y : Time} → Pieces (Lies inner) n x y → (x ≈ᵀ y) ⊎ ((j : ℕ) × (z : Zone) × Composed inner j z × In z x y)
+  pub pieces-composed : {n : ℕ} {x y : Time} → Pieces (Lies inner) n x y → (x ≈ᵀ y) ⊎ ((j : ℕ) × (z : Zone) × Composed inner j z × In z x y)
   pieces-composed (none e) = inl e
   pieces-composed (more {x = x} {t = t} {y = y} p l) = inr (⊎-elim first next (pieces-composed p))
     where

@@ -1,4 +1,4 @@
--- Letters with their sign, and operators with one operand, read from a place of the text.
+-- Letters with their sign, and operators after their operand, read from a place of the text.
 use mathlib.Core.Path.{_≡_, refl, ap}
 use mathlib.Core.Bool.{true, false}
 use mathlib.Core.List.{List}

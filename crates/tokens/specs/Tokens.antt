@@ -1,4 +1,4 @@
--- What the text of a drill begins with, as a function of the text: a byte, a number, a range, an operator with one operand, a
+-- What the text of a drill begins with, as a function of the text: a byte, a number, a range, an operator after its operand, a
 -- letter with its sign; and what is said of a place of the text where one of them was read. How they make a drill is found in `descent`.
 use mathlib.Core.Bool.{Bool, true, false}
 use mathlib.Core.List.{List, [], _∷_}
@@ -13,7 +13,7 @@ use Rattle.expression.specs.declared.Upper.{Upper}
 use Rattle.expression.specs.declared.Upper.the-variants.{Endless, UpTo}
 use Rattle.expression.specs.declared.Sign.the-variants.{High, Low, Rise, Fall}
 use Rattle.expression.specs.declared.Unary.{Unary}
-use Rattle.expression.specs.declared.Unary.the-variants.{Star, Band}
+use Rattle.expression.specs.declared.Unary.the-variants.{Star, Band, Absence}
 use Rattle.expression.specs.Expression.{Expression, literal}
 use Rattle.expression.specs.declared.Sign.{Sign}
 use Rattle.tokens.specs.declared.Postfix.{Postfix}
@@ -79,7 +79,7 @@ upperEnd s = branch (starts 125 s) (λ _. yes Endless (rest s)) (λ _. bind (bou
 unfoldable pub limits : List ℕ → Got Range
 limits s = bind (bound s) (λ e r. bind (expect 44 e r) (λ lo q. bind (upperEnd q) (λ hi p. yes (record { lo = lo; hi = hi }) p)))
 
--- an operator with one operand: `*`, or a range in braces
+-- an operator after its operand: `*`, or a range in braces
 abbrev pub postfix : List ℕ → Got Unary
 postfix s = branch (starts 42 s) (λ _. yes Star (rest s)) (λ _. branch (starts 123 s) (λ _. bind (limits (rest s)) (λ x r. yes (Band x) r)) (λ _. no))
 
@@ -112,6 +112,7 @@ cappedRange r = record { lo = cappedEnd (r .lo); hi = cappedUpper (r .hi) }
 abbrev pub cappedUnary : Unary → Unary
 cappedUnary Star = Star
 cappedUnary (Band r) = Band (cappedRange r)
+cappedUnary Absence = Absence
 
 -- a value x that was read from `at` up to a, of which v is kept
 pub record Got-at {A : Type 0} (reads : List ℕ → Got A) (keeps : A → A) (text : List ℕ) (at a : ℕ) (v : A) : Type 0 where
@@ -121,7 +122,7 @@ pub record Got-at {A : Type 0} (reads : List ℕ → Got A) (keeps : A → A) (t
   pub is : v ≡ keeps x
   pub read : reads (drop at text) ≡ yes x (drop a text)
 
--- an operator with one operand: where it ends and which it is, or that there is none
+-- an operator after its operand: where it ends and which it is, or that there is none
 abbrev pub PostfixAs : List ℕ → ℕ → Postfix → Type 0
 PostfixAs text at (Operator a u) = Got-at postfix cappedUnary text at a u
 PostfixAs text at NoOperator = postfix (drop at text) ≡ no

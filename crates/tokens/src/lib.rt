@@ -1,4 +1,4 @@
-// Reads what the text of a drill has at a place: a byte, a number, a range, an operator with one operand, a letter with its sign.
+// Reads what the text of a drill has at a place: a byte, a number, a range, an operator after its operand, a letter with its sign.
 // Nothing is known here of the levels of the grammar, nor of trees.
 //
 // specs/Tokens.antt says what a text begins with, and what is kept of it.
@@ -43,7 +43,7 @@ enum Braces {
     NoRange,
 }
 
-// Where an operator with one operand ends, and which it is.
+// Where an operator after its operand ends, and which it is.
 pub enum Postfix {
     Operator(usize, Unary),
     NoOperator,

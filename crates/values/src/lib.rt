@@ -19,6 +19,7 @@ ghost use Prim.Native.Nat.{_+_, _*_, _≤_};
 ghost use Rattle.limit.specs.Limit.{most-ticks};
 ghost use Rattle.list.specs.Slots.{slot-words, listAt, Kept, Source};
 ghost use Rattle.operators.specs.Operators.{compositions, banded};
+ghost use Rattle.absence.specs.Absence.{absent};
 ghost use Rattle.pairs.specs.Operands.{Operands};
 ghost use Rattle.operators.specs.Listing.{BuiltAs};
 ghost use Rattle.expression.specs.Refusal.{figure, Wrong};
@@ -169,6 +170,18 @@ fn star(work: &mut [i32], base: usize, n: usize, from: u32, to: u32, told: u64) 
     starred
 }
 
+// `~`: the stretches of ticks from..to that lie in none of the zones in the slot at `base`, listed there. No round is spent.
+fn absent(work: &mut [i32], base: usize, n: usize, from: u32, to: u32, left: u64) -> Evaluated
+    requires { ⌜ (OperandAt (now work) base n) × (Ticks from to) ⌝ }
+    ensures value { λ r. ⌜ EvaluatedAs (λ v. v ≡ ended (absent from to (listAt (now (work .entry)) base n))) left (now (work .exit)) base r ⌝ }
+    ensures kept { λ _. ⌜ Kept base (3 * slot-words) (now (work .entry)) (now (work .exit)) ⌝ }
+{
+    let Listed::Count(count) = absence::absent(work, base, n, from, to) else {
+        return Evaluated::Overflow { left };
+    };
+    Evaluated::Listed { count, left }
+}
+
 // The operators with one operand, on its list of n zones in the slot at `base`, with the rounds that it has left. The other words of the
 // three slots from there on are free, and all of them where there is no list.
 pub fn apply(
@@ -187,5 +200,6 @@ pub fn apply(
     match op {
         Unary::Star => star(work, base, n, from, to, left),
         Unary::Band(range) => banded(work, base, n, range, from, to, left),
+        Unary::Absence => absent(work, base, n, from, to, left),
     }
 }

@@ -4,39 +4,21 @@ use mathlib.Core.Bool.{Bool, true, false}
 use Prim.Native.Nat.{_+_, _*_, _≤_}
 use native.Mathlib.Omega.{arith}
 use lib.Dec.{T}
-use lib.IntN.{negℤ}
-use Rattle.signed.proofs.Integers.{neg}
 use Rattle.limit.specs.Time.{Time, origin}
 use Rattle.limit.specs.declared.Limit.{Limit}
-use Rattle.limit.specs.declared.Limit.the-variants.{AtMost, Below}
-use Rattle.limit.specs.Limit.{Within, at-most, _≤ᴸ_, _⊕_, nought}
+use Rattle.limit.specs.Limit.{Within, at-most, _≤ᴸ_, _⊕_, nought, broken}
 use Rattle.zone.specs.Zone.{Zone, In, Side, on-start, on-nstart, on-end, on-nend, on-length, on-nlength, limit, upper, lower, opposite, Keeps, Loses}
 use Rattle.limit.proofs.Linear.{up, dn, un, un-le, lin-le, sum-ud, sum-un, nought-up, nought-dn, nought-un, within-lin}
 use Rattle.limit.proofs.Common.{within-widen, within-≤}
+use Rattle.limit.proofs.Breaking.{broken-lin, broken-is}
 use Rattle.zone.proofs.Closed.{Closed}
 use Rattle.zone.proofs.Tighten.{⊑-in}
 use Rattle.zone.proofs.Narrow.{member, narrowed}
 
--- the limit on the negated difference that just fails m
-against : Limit → Limit
-against (AtMost v) = Below (negℤ v)
-against (Below v) = AtMost (negℤ v)
-
-against-lin : (m : Limit) → (up (against m) ≡ dn m) × (dn (against m) ≡ up m) × (un (against m) + un m ≡ 1)
-unfolding up dn un against
-against-lin (AtMost v) = (neg v .0, neg v .1, refl)
-against-lin (Below v) = (neg v .0, neg v .1, refl)
-
-room : {l m : Limit} → ¬ (l ≤ᴸ m) → nought ≤ᴸ l ⊕ against m
+room : {l m : Limit} → ¬ (l ≤ᴸ m) → nought ≤ᴸ l ⊕ broken m
 room {l} {m} n =
     let g : ¬ (2 * up l + 2 * dn m + un m ≤ 2 * up m + 2 * dn l + un l) = λ k. n (lin-le k) in
-    lin-le (omega (arith, nought-up, nought-dn, nought-un, sum-ud l (against m), sum-un l (against m), against-lin m, un-le l, un-le m))
-
-fails : (m : Limit) (x y : Time) → Within (against m) y x → ¬ (Within m x y)
-fails m x y h k =
-    let a : up (against m) * (y .den * x .den) ≡ dn m * (x .den * y .den) = rw (against-lin m .0) (omega arith) in
-    let b : dn (against m) * (y .den * x .den) ≡ up m * (x .den * y .den) = rw (against-lin m .1) (omega arith) in
-    omega (arith, against-lin m .2, within-lin m x y .0 k, within-lin (against m) y x .0 h)
+    lin-le (omega (arith, nought-up, nought-dn, nought-un, sum-ud l (broken m), sum-un l (broken m), broken-lin m, un-le l, un-le m))
 
 -- a member keeps to each limit, also seen from the other side
 pub on : {z : Zone} {x y : Time} → In z x y → (k : Side) → Keeps k (limit z k) x y
@@ -47,7 +29,7 @@ on h on-nend = h .nend
 on h on-length = h .length
 on h on-nlength = h .nlength
 
-off : {z : Zone} {x y : Time} → In z x y → (k : Side) → Within (limit z (opposite k)) (lower origin k x y) (upper origin k x y)
+pub off : {z : Zone} {x y : Time} → In z x y → (k : Side) → Within (limit z (opposite k)) (lower origin k x y) (upper origin k x y)
 off h on-start = h .nstart
 off h on-nstart = h .start
 off h on-end = h .nend
@@ -57,7 +39,7 @@ off h on-nlength = h .length
 
 pub sharp : {z : Zone} → Closed z → (k : Side) (m : Limit) → ¬ (limit z k ≤ᴸ m) → Loses z k m
 sharp {z} h k m n =
-    let r = narrowed h (against m) k (room n) in
+    let r = narrowed h (broken m) k (room n) in
     let p = member (r .closed) in
     let q = ⊑-in (r .inside) (p .2) in
     record {
@@ -65,7 +47,7 @@ sharp {z} h k m n =
       to = p .1;
       stretch = within-≤ (p .0) (p .1) .0 (within-widen (p .0) (p .1) (h .onward) (q .nlength));
       member = q;
-      lost = fails m (upper origin k (p .0) (p .1)) (lower origin k (p .0) (p .1)) (within-widen (lower origin k (p .0) (p .1)) (upper origin k (p .0) (p .1)) (r .low) (off (p .2) k));
+      lost = broken-is m (upper origin k (p .0) (p .1)) (lower origin k (p .0) (p .1)) .0 (within-widen (lower origin k (p .0) (p .1)) (upper origin k (p .0) (p .1)) (r .low) (off (p .2) k));
     }
 
 dec≤ : (l m : Limit) → Dec (l ≤ᴸ m)

@@ -5,11 +5,12 @@ use Rattle.expression.specs.Stored.{decoded}
 use Rattle.expression.proofs.node_of.Statement.{statement}
 use Rattle.expression.proofs.node_of.Tie as tie
 
-returns-15 : tie.Need-returns-15
+returns-16 : tie.Need-returns-16
 unfolding decoded
-returns-15 c =
+returns-16 c =
     let none = c .match .rest in
     rw (
+      ne-eqb _ _ (none .0 .0 .0 .0 .0 .0 .0 .0 .0 .0 .0 .0 .0 .0 .1),
       ne-eqb _ _ (none .0 .0 .0 .0 .0 .0 .0 .0 .0 .0 .0 .0 .0 .1),
       ne-eqb _ _ (none .0 .0 .0 .0 .0 .0 .0 .0 .0 .0 .0 .0 .1),
       ne-eqb _ _ (none .0 .0 .0 .0 .0 .0 .0 .0 .0 .0 .0 .1),
@@ -51,4 +52,5 @@ node-of-spec =
     (λ c. rw (c .before .match .keys12) (c .band-node4 .ensures))
     (λ c. rw (c .before .match .keys13) (c .band-node5 .ensures))
     (λ c. rw (c .before .match .keys14) (c .band-node6 .ensures))
-    returns-15)
+    (λ c. rw (c .match .keys15))
+    returns-16)

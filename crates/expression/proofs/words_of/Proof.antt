@@ -26,6 +26,7 @@ words-of-spec =
     (λ c. search needs)
     (λ c. search needs)
     (λ c κs. search needs)
+    (λ c. search needs)
     (λ c. sym (c .enum-told .given .1))
     (λ c. let n = c .before .before .before .node .given in ap (λ (s : Sign). Literal s (n .0 .1 .0)) (sym (c .enum-told2 .given .1)) ∙ sym (n .1))
     (λ c. let n = c .before .before .before .node .given in ap (λ (s : Sign). Literal s (n .0 .1 .0)) (sym (c .enum-told3 .given .1)) ∙ sym (n .1))
@@ -36,4 +37,5 @@ words-of-spec =
     (λ c. let n = c .before .before .before .node2 .given in ap (λ (j : Join). Infix j (n .0 .1 .0) (n .0 .1 .1 .0)) (sym (c .enum-told8 .given .1)) ∙ sym (n .1))
     (λ c. let n = c .before .before .before .node3 .given in ap (λ (u : Unary). Applied u (n .0 .1 .0)) (sym (c .enum-told9 .given .1)) ∙ sym (n .1))
     (λ c. let n = c .before .before .before .before .before .node3 .given in
-    c .band-words .ensures ∙ ap (λ (u : Unary). Applied u (n .0 .1 .0)) (sym (c .before .before .op .given .1)) ∙ sym (n .1)))
+    c .band-words .ensures ∙ ap (λ (u : Unary). Applied u (n .0 .1 .0)) (sym (c .before .before .op .given .1)) ∙ sym (n .1))
+    (λ c. let n = c .before .before .before .node3 .given in ap (λ (u : Unary). Applied u (n .0 .1 .0)) (sym (c .enum-told10 .given .1)) ∙ sym (n .1)))

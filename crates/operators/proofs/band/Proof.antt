@@ -1,5 +1,5 @@
 use Rattle.list.proofs.Slots.{list-there, still-source, still-empty}
-use Rattle.operators.proofs.Listings.{band-kept, band-alone, sound-band}
+use Rattle.operators.proofs.Listings.{written-kept, written-alone, sound-one}
 use Rattle.list.proofs.Copies.{kept-both, kept-neither, disjoint-swap}
 use Rattle.list.proofs.Puts.{holds-same}
 use Rattle.list.specs.Slots.{listAt, Sound}
@@ -23,9 +23,9 @@ meets-requires : tie.Need-meets-requires
 meets-requires c κs =
     let work = c .before .before .before .before .before .before .before .pre .0 in
     let the-limits = c .before .before .before .before .before .limits in
-    let f = band-kept (the-limits .given .0 .0) _ _ (work .scratch-free) (c .before .before .write-zone .ensures) in
-    let alone = band-alone (the-limits .given .0 .0) _ _ (work .scratch-free) (c .before .before .write-zone .ensures) in
-    let sound = subst Sound (sym alone) (sound-band (rw (the-limits .given .1) at (c .before .before .before .before .before .before .before .pre .1))) in
+    let f = written-kept (the-limits .given .0 .0) _ _ (work .scratch-free) (c .before .before .write-zone .ensures) in
+    let alone = written-alone (the-limits .given .0 .0) _ _ (work .scratch-free) (c .before .before .write-zone .ensures) in
+    let sound = subst Sound (sym alone) (sound-one (rw (the-limits .given .1) at (c .before .before .before .before .before .before .before .pre .1))) in
     record {
       lefts = record { list = still-source _ _ (work .list) f (work .scratch-apart); slot = still-empty f (work .target-free); apart = work .target-apart };
       rights =
@@ -43,9 +43,9 @@ returns-2 c =
     let work = start .pre .0 in
     let the-limits = c .before .before .before .before .before .before .before .limits in
     let the-write-zone = c .before .before .before .before .write-zone in
-    let f = band-kept (the-limits .given .0 .0) _ _ (work .scratch-free) (the-write-zone .ensures) in
+    let f = written-kept (the-limits .given .0 .0) _ _ (work .scratch-free) (the-write-zone .ensures) in
     let same = list-there (start .args .source) (start .args .n) f (work .scratch-apart) (work .list .few) in (
-      rw (the-limits .given .1) (rw (same, band-alone (the-limits .given .0 .0) _ _ (work .scratch-free) (the-write-zone .ensures)) at (c .before .meets .ensures .0)),
+      rw (the-limits .given .1) (rw (same, written-alone (the-limits .given .0 .0) _ _ (work .scratch-free) (the-write-zone .ensures)) at (c .before .meets .ensures .0)),
       (kept-both f (c .before .meets .ensures .1), omega (arith, work .scratch-free, f .same-length, c .before .meets .ensures .1 .same-length)),
     )
 

@@ -9,4 +9,4 @@ returns-2 c = rw (c .before .before .op .given .1) (wrong-is (c .before .before 
 
 pub wrong-operator-spec : {M : Type 1} → statement M
 wrong-operator-spec =
-    tie.close (tie.spec (λ c. search needs) (λ c. search needs) (λ c κs. search needs) (λ c. search needs) returns-2)
+    tie.close (tie.spec (λ c. search needs) (λ c. search needs) (λ c κs. search needs) (λ c. search needs) (λ c. search needs) returns-2 (λ c. search needs))

@@ -12,7 +12,10 @@ returns c = (rw (c .before .before .before .enum-told .given .1) (c .before .sta
 returns-2 : tie.Need-returns-2
 returns-2 c = (rw (c .before .before .before .before .op .given .1) (c .before .banded .ensures .0), c .before .banded .ensures .1)
 
+returns-3 : tie.Need-returns-3
+returns-3 c = (rw (c .before .before .before .enum-told2 .given .1) (c .before .absent .ensures .0), c .before .absent .ensures .1)
+
 pub apply-spec : {M : Type 1} → statement M
 apply-spec =
     tie.close
-    (tie.spec (λ c. search needs) (λ c κs. search needs) (λ c. search needs) banded-requires (λ c. search needs) returns (λ c. search needs) returns-2)
+    (tie.spec (λ c. search needs) (λ c κs. search needs) (λ c. search needs) banded-requires (λ c. search needs) (λ c κs. search needs) (λ c. search needs) returns (λ c. search needs) returns-2 (λ c. search needs) returns-3)

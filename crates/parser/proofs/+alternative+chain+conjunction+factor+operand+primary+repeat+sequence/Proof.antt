@@ -9,7 +9,7 @@ use borrow.Author.Needs.{needs}
 use Rattle.expression.specs.declared.Join.{Join}
 use Rattle.expression.specs.declared.Join.the-variants.{Union, Intersection, Concatenation}
 use Rattle.descent.specs.Descent.{joining, repeating}
-use Rattle.parser.specs.Readers.{wrongUnary, Reached}
+use Rattle.leaves.specs.Reading.{wrongUnary, Reached}
 use Rattle.descent.proofs.Steps.{joinsAfter, postfixesAfter}
 use Rattle.parser.proofs.Checks.{capped-wrong-unary}
 use Rattle.parser.proofs.Additions.{
@@ -18,78 +18,83 @@ use Rattle.parser.proofs.Additions.{
   joins-end,
   joins-stop,
   joins-on-to,
+  untilded-as,
+  tilded-stop,
+  tilded-on,
   postfixes-begin,
   postfixes-none,
   postfixes-end,
   postfixes-on-to,
   bracketed-stop,
   bracketed-as,
-  plain,
-  leaf-epsilon,
-  leaf-letter,
 }
 use borrow.Fn.Kind.{PK}
 use borrow.Fn.Kinds.{In}
 use borrow.Fn.PlainCycle.{Measures, is, falls, and}
 use Rattle.parser.proofs.alternative.Reads as alternative
 use Rattle.parser.proofs.alternative.Kinds as alternative-kinds
-use Rattle.parser.proofs.+alternative+chain+conjunction+operand+primary+repeat+sequence.Lts-alternative as alternative-lts
+use Rattle.parser.proofs.+alternative+chain+conjunction+factor+operand+primary+repeat+sequence.Lts-alternative as alternative-lts
 use Rattle.parser.proofs.chain.Reads as chain
 use Rattle.parser.proofs.chain.Kinds as chain-kinds
-use Rattle.parser.proofs.+alternative+chain+conjunction+operand+primary+repeat+sequence.Lts-chain as chain-lts
+use Rattle.parser.proofs.+alternative+chain+conjunction+factor+operand+primary+repeat+sequence.Lts-chain as chain-lts
 use Rattle.parser.proofs.conjunction.Reads as conjunction
 use Rattle.parser.proofs.conjunction.Kinds as conjunction-kinds
-use Rattle.parser.proofs.+alternative+chain+conjunction+operand+primary+repeat+sequence.Lts-conjunction as conjunction-lts
+use Rattle.parser.proofs.+alternative+chain+conjunction+factor+operand+primary+repeat+sequence.Lts-conjunction as conjunction-lts
+use Rattle.parser.proofs.factor.Reads as factor
+use Rattle.parser.proofs.factor.Kinds as factor-kinds
+use Rattle.parser.proofs.+alternative+chain+conjunction+factor+operand+primary+repeat+sequence.Lts-factor as factor-lts
 use Rattle.parser.proofs.operand.Reads as operand
 use Rattle.parser.proofs.operand.Kinds as operand-kinds
-use Rattle.parser.proofs.+alternative+chain+conjunction+operand+primary+repeat+sequence.Lts-operand as operand-lts
+use Rattle.parser.proofs.+alternative+chain+conjunction+factor+operand+primary+repeat+sequence.Lts-operand as operand-lts
 use Rattle.parser.proofs.primary.Reads as primary
 use Rattle.parser.proofs.primary.Kinds as primary-kinds
-use Rattle.parser.proofs.+alternative+chain+conjunction+operand+primary+repeat+sequence.Lts-primary as primary-lts
+use Rattle.parser.proofs.+alternative+chain+conjunction+factor+operand+primary+repeat+sequence.Lts-primary as primary-lts
 use Rattle.parser.proofs.repeat.Reads as repeat
 use Rattle.parser.proofs.repeat.Kinds as repeat-kinds
-use Rattle.parser.proofs.+alternative+chain+conjunction+operand+primary+repeat+sequence.Lts-repeat as repeat-lts
+use Rattle.parser.proofs.+alternative+chain+conjunction+factor+operand+primary+repeat+sequence.Lts-repeat as repeat-lts
 use Rattle.parser.proofs.sequence.Reads as sequence
 use Rattle.parser.proofs.sequence.Kinds as sequence-kinds
-use Rattle.parser.proofs.+alternative+chain+conjunction+operand+primary+repeat+sequence.Lts-sequence as sequence-lts
+use Rattle.parser.proofs.+alternative+chain+conjunction+factor+operand+primary+repeat+sequence.Lts-sequence as sequence-lts
 use Rattle.tokens.proofs.byte_is.Reads as byte-is-reads
 use Rattle.parser.proofs.closed.Reads as closed-reads
-use Rattle.trees.proofs.leaf.Reads as leaf-reads
-use Rattle.tokens.proofs.letter_at.Reads as letter-at-reads
+use Rattle.leaves.proofs.leaf.Reads as leaf-reads
 use Rattle.trees.proofs.over_one.Reads as over-one-reads
 use Rattle.trees.proofs.over_two.Reads as over-two-reads
 use Rattle.tokens.proofs.postfix_at.Reads as postfix-at-reads
 use Rattle.parser.proofs.symbol.Reads as symbol-reads
 use Rattle.parser.proofs.wrong_operator.Reads as wrong-operator-reads
-use Rattle.parser.proofs.+alternative+chain+conjunction+operand+primary+repeat+sequence.{statement}
-use Rattle.parser.proofs.+alternative+chain+conjunction+operand+primary+repeat+sequence.Tie.{close}
+use Rattle.parser.proofs.+alternative+chain+conjunction+factor+operand+primary+repeat+sequence.{statement}
+use Rattle.parser.proofs.+alternative+chain+conjunction+factor+operand+primary+repeat+sequence.Tie.{close}
 
--- The levels from the innermost: a primary 1, a repeat 2, and then for each join its operand, the chain of its operands, and the reader of its level.
+-- The levels from the innermost: a primary 1, a repeat 2, a factor 3, and then for each join its operand, the chain of its operands, and the reader of its level.
 abbrev operand-level : Join → ℕ
-operand-level Union = 9
-operand-level Intersection = 6
-operand-level Concatenation = 3
+operand-level Union = 10
+operand-level Intersection = 7
+operand-level Concatenation = 4
 
 abbrev μ-alternative : Measures 2 alternative-kinds.ps ℕ
-μ-alternative κs a = (length (a .0 .now) - a .1 .0) * 11 + 11
+μ-alternative κs a = (length (a .0 .now) - a .1 .0) * 12 + 12
 
 abbrev μ-chain : Measures 2 chain-kinds.ps ℕ
-μ-chain κs a = (length (a .0 .now) - a .1 .0) * 11 + (operand-level (a .1 .1 .1 .1 .0) + 1)
+μ-chain κs a = (length (a .0 .now) - a .1 .0) * 12 + (operand-level (a .1 .1 .1 .1 .0) + 1)
 
 abbrev μ-conjunction : Measures 2 conjunction-kinds.ps ℕ
-μ-conjunction κs a = (length (a .0 .now) - a .1 .0) * 11 + 8
+μ-conjunction κs a = (length (a .0 .now) - a .1 .0) * 12 + 9
+
+abbrev μ-factor : Measures 2 factor-kinds.ps ℕ
+μ-factor κs a = (length (a .0 .now) - a .1 .0) * 12 + 3
 
 abbrev μ-operand : Measures 2 operand-kinds.ps ℕ
-μ-operand κs a = (length (a .0 .now) - a .1 .0) * 11 + operand-level (a .1 .1 .1 .1 .0)
+μ-operand κs a = (length (a .0 .now) - a .1 .0) * 12 + operand-level (a .1 .1 .1 .1 .0)
 
 abbrev μ-primary : Measures 2 primary-kinds.ps ℕ
-μ-primary κs a = (length (a .0 .now) - a .1 .0) * 11 + 1
+μ-primary κs a = (length (a .0 .now) - a .1 .0) * 12 + 1
 
 abbrev μ-repeat : Measures 2 repeat-kinds.ps ℕ
-μ-repeat κs a = (length (a .0 .now) - a .1 .0) * 11 + 2
+μ-repeat κs a = (length (a .0 .now) - a .1 .0) * 12 + 2
 
 abbrev μ-sequence : Measures 2 sequence-kinds.ps ℕ
-μ-sequence κs a = (length (a .0 .now) - a .1 .0) * 11 + 5
+μ-sequence κs a = (length (a .0 .now) - a .1 .0) * 12 + 6
 
 -- what a reader is told at the measure t, and what it shows of a reader that it calls
 abbrev told : (ps : List (PK 2)) → Measures 2 ps ℕ → In 2 ps → ℕ → In 2 ps
@@ -110,9 +115,9 @@ repeat-Inv-loop text at nodes₀ used tree₀ nodes tree = Reached repeating pos
 abbrev repeat-μ-loop : repeat-lts.MeasureT-loop
 repeat-μ-loop text at nodes₀ used tree₀ nodes tree = length text - tree .at
 
-pub +alternative+chain+conjunction+operand+primary+repeat+sequence-spec : {M : Type 1} → statement M
-+alternative+chain+conjunction+operand+primary+repeat+sequence-spec =
-    close μ-alternative μ-chain μ-conjunction μ-operand μ-primary μ-repeat μ-sequence
+pub +alternative+chain+conjunction+factor+operand+primary+repeat+sequence-spec : {M : Type 1} → statement M
++alternative+chain+conjunction+factor+operand+primary+repeat+sequence-spec =
+    close μ-alternative μ-chain μ-conjunction μ-factor μ-operand μ-primary μ-repeat μ-sequence
     (λ t. alternative-lts.spec (
       lower chain-kinds.ps μ-chain chain.Pre t,
       chain.Post,
@@ -203,13 +208,58 @@ pub +alternative+chain+conjunction+operand+primary+repeat+sequence-spec : {M : T
     (λ c. search needs)
     -- conjunction: returns
     (λ c. c .before .before .chain .ensures))
+    (λ t. factor-lts.spec (
+      byte-is-reads.Asked,
+      byte-is-reads.Learnt,
+      lower repeat-kinds.ps μ-repeat repeat.Pre t,
+      repeat.Post,
+      over-one-reads.Asked,
+      over-one-reads.Learnt,
+    )
+    (told factor-kinds.ps μ-factor factor.Pre t)
+    factor.Post
+    (λ c κs. search needs)
+    -- factor: add-repeat
+    (λ c. omega (arith, c .before .byte-is .ensures .inside (c .if1 .taken)))
+    -- factor: repeat-requires
+    (λ c κs. let l = c .before .before .byte-is .ensures .inside (c .before .if1 .taken) in search needs)
+    (λ c. search needs)
+    (λ c. search needs)
+    (λ c. search needs)
+    -- factor: returns
+    (λ c.
+    let the-byte-is = c .before .before .before .before .before .before .before .byte-is in
+    let the-if1 = c .before .before .before .before .before .before .if1 in
+    tilded-stop _ _ (the-byte-is .ensures .is ∙ the-if1 .taken) (the-byte-is .ensures .inside (the-if1 .taken)) (rw (c .enum-told .given .1) at (c .before .before .before .before .repeat .ensures)))
+    -- factor: over-one-requires
+    (λ c κs.
+    let start = c .before .before .before .before .before .before .before .before .before .before .before .before in
+    let the-repeat = c .before .before .before .before .before .before .repeat in
+    let s = rw (c .before .before .inner .given .1) at (the-repeat .ensures) in
+    record {
+      few = omega (arith, s .few, s .inside, start .pre);
+      shallow = s .shallow;
+      free = omega (arith, s .few, s .inside, start .pre, the-repeat .kept);
+    })
+    (λ c. search needs)
+    -- factor: returns-2
+    (λ c.
+    let the-byte-is = c .before .before .before .before .before .before .before .before .before .before .before .before .byte-is in
+    let the-if1 = c .before .before .before .before .before .before .before .before .before .before .before .if1 in
+    let the-over-one = c .before .before .over-one in
+    let s = rw (c .before .before .before .before .before .inner .given .1) at (c .before .before .before .before .before .before .before .before .before .repeat .ensures) in
+    tilded-on _ _ (the-byte-is .ensures .is ∙ the-if1 .taken) (the-byte-is .ensures .inside (the-if1 .taken)) s (the-over-one .ensures .0) (the-over-one .ensures .1))
+    (λ c κs. search needs)
+    (λ c. search needs)
+    -- factor: returns-3
+    (λ c. untilded-as _ _ _ _ _ (c .before .before .before .before .before .byte-is .ensures .is ∙ c .before .before .before .before .if1 .left) (c .before .before .repeat2 .result) (c .before .before .repeat2 .ensures)))
     (λ t. operand-lts.spec (
       lower conjunction-kinds.ps μ-conjunction conjunction.Pre t,
       conjunction.Post,
       lower sequence-kinds.ps μ-sequence sequence.Pre t,
       sequence.Post,
-      lower repeat-kinds.ps μ-repeat repeat.Pre t,
-      repeat.Post,
+      lower factor-kinds.ps μ-factor factor.Pre t,
+      factor.Post,
     )
     (told operand-kinds.ps μ-operand operand.Pre t)
     operand.Post
@@ -220,7 +270,7 @@ pub +alternative+chain+conjunction+operand+primary+repeat+sequence-spec : {M : T
     -- operand: sequence-requires
     (λ c κs. let level = ap operand-level (c .before .enum-told2 .given .1) in search needs)
     (λ c. search needs)
-    -- operand: repeat-requires
+    -- operand: factor-requires
     (λ c κs. let level = ap operand-level (c .before .enum-told3 .given .1) in search needs)
     (λ c. search needs)
     -- operand: returns
@@ -230,74 +280,44 @@ pub +alternative+chain+conjunction+operand+primary+repeat+sequence-spec : {M : T
     (λ c. rw (c .before .before .before .before .enum-told2 .given .1) (c .before .before .sequence .ensures))
     (λ c. search needs)
     -- operand: returns-3
-    (λ c. rw (c .before .before .before .before .enum-told3 .given .1) (c .before .before .repeat .ensures)))
+    (λ c. rw (c .before .before .before .before .enum-told3 .given .1) (c .before .before .factor .ensures)))
     (λ t. primary-lts.spec (
       byte-is-reads.Asked,
       byte-is-reads.Learnt,
-      leaf-reads.Asked,
-      leaf-reads.Learnt,
       lower alternative-kinds.ps μ-alternative alternative.Pre t,
       alternative.Post,
       closed-reads.Asked,
       closed-reads.Learnt,
-      letter-at-reads.Asked,
-      letter-at-reads.Learnt,
+      leaf-reads.Asked,
+      leaf-reads.Learnt,
     )
     (told primary-kinds.ps μ-primary primary.Pre t)
     primary.Post
     (λ c κs. search needs)
-    -- primary: add-leaf
-    (λ c. omega (arith, c .before .before .byte-is .ensures .inside (c .before .if1 .taken)))
-    -- primary: leaf-requires
-    (λ c κs.
-    let l = c .before .before .byte-is .ensures .inside (c .before .if1 .taken) in
-    let start = c .before .before .before .before .before in
-    record { few = omega (arith, start .pre); shallow = omega arith; free = omega (arith, start .pre) })
+    -- primary: add-alternative
+    (λ c. omega (arith, c .before .byte-is .ensures .inside (c .if1 .taken)))
+    -- primary: alternative-requires
+    (λ c κs. let l = c .before .before .byte-is .ensures .inside (c .before .if1 .taken) in search needs)
+    (λ c. search needs)
+    (λ c. search needs)
     (λ c. search needs)
     -- primary: returns
     (λ c.
-    let the-byte-is = c .before .before .before .before .before .byte-is in
-    let the-if1 = c .before .before .before .before .if1 in
-    rw (c .before .before .leaf .ensures .0) (leaf-epsilon _ _ _ (the-byte-is .ensures .is ∙ the-if1 .taken) (the-byte-is .ensures .inside (the-if1 .taken)) (c .before .before .leaf .ensures .1)))
+    let the-byte-is = c .before .before .before .before .before .before .before .byte-is in
+    let the-if1 = c .before .before .before .before .before .before .if1 in
+    bracketed-stop _ _ (the-byte-is .ensures .is ∙ the-if1 .taken) (the-byte-is .ensures .inside (the-if1 .taken)) (rw (c .enum-told .given .1) at (c .before .before .before .before .alternative .ensures)))
     (λ c κs. search needs)
-    -- primary: add-alternative
-    (λ c. omega (arith, c .before .byte-is2 .ensures .inside (c .if2 .taken)))
-    -- primary: alternative-requires
-    (λ c κs. let l = c .before .before .byte-is2 .ensures .inside (c .before .if2 .taken) in search needs)
-    (λ c. search needs)
-    (λ c. search needs)
     (λ c. search needs)
     -- primary: returns-2
     (λ c.
-    let the-byte-is2 = c .before .before .before .before .before .before .before .byte-is2 in
-    let the-if2 = c .before .before .before .before .before .before .if2 in
-    bracketed-stop _ _ (c .before .before .before .before .before .before .before .before .before .byte-is .ensures .is ∙ c .before .before .before .before .before .before .before .before .if1 .left) (the-byte-is2 .ensures .is ∙ the-if2 .taken) (the-byte-is2 .ensures .inside (the-if2 .taken)) (rw (c .enum-told .given .1) at (c .before .before .before .before .alternative .ensures)))
-    (λ c κs. search needs)
+    let the-byte-is = c .before .before .before .before .before .before .before .before .before .byte-is in
+    let the-if1 = c .before .before .before .before .before .before .before .before .if1 in
+    bracketed-as _ _ (the-byte-is .ensures .is ∙ the-if1 .taken) (the-byte-is .ensures .inside (the-if1 .taken)) (rw (c .before .before .inner .given .1) at (c .before .before .before .before .before .before .alternative .ensures)) (c .closed .result) (c .closed .ensures))
+    -- primary: leaf-requires
+    (λ c κs. (c .before .before .before .before .before .pre .1, c .before .before .byte-is .ensures .is ∙ c .before .if1 .left))
     (λ c. search needs)
     -- primary: returns-3
-    (λ c.
-    let the-byte-is2 = c .before .before .before .before .before .before .before .before .before .byte-is2 in
-    let the-if2 = c .before .before .before .before .before .before .before .before .if2 in
-    bracketed-as _ _ (c .before .before .before .before .before .before .before .before .before .before .before .byte-is .ensures .is ∙ c .before .before .before .before .before .before .before .before .before .before .if1 .left) (the-byte-is2 .ensures .is ∙ the-if2 .taken) (the-byte-is2 .ensures .inside (the-if2 .taken)) (rw (c .before .before .inner .given .1) at (c .before .before .before .before .before .before .alternative .ensures)) (c .closed .result) (c .closed .ensures))
-    (λ c κs. search needs)
-    (λ c. search needs)
-    (λ c. search needs)
-    -- primary: returns-4
-    (λ c.
-    let start = c .before .before .before .before .before .before .before .before .before in
-    plain (start .args .text .now) (start .args .at) (c .before .before .before .before .before .before .byte-is .ensures .is ∙ c .before .before .before .before .before .if1 .left) (c .before .before .before .before .byte-is2 .ensures .is ∙ c .before .before .before .if2 .left) ∙ rw (c .enum-told2 .given .1) at (c .before .before .letter-at .ensures))
-    -- primary: add-leaf-2
-    (λ c. let o = rw (c .before .before .end .given .1) at (c .before .before .before .before .letter-at .ensures) in omega (arith, o .small))
-    -- primary: leaf-requires-2
-    (λ c κs.
-    let o = rw (c .before .before .end .given .1) at (c .before .before .before .before .letter-at .ensures) in
-    let start = c .before .before .before .before .before .before .before .before .before .before .before in
-    record { few = omega (arith, o .ahead, o .inside, start .pre); shallow = omega arith; free = omega (arith, o .ahead, o .inside, start .pre) })
-    (λ c. search needs)
-    -- primary: returns-5
-    (λ c.
-    let o = rw (c .before .before .before .before .before .end .given .1) at (c .before .before .before .before .before .before .before .letter-at .ensures) in
-    rw (c .before .before .leaf2 .ensures .0) (leaf-letter _ _ _ (c .before .before .before .before .before .before .before .before .before .before .before .byte-is .ensures .is ∙ c .before .before .before .before .before .before .before .before .before .before .if1 .left) (c .before .before .before .before .before .before .before .before .before .byte-is2 .ensures .is ∙ c .before .before .before .before .before .before .before .before .if2 .left) o (c .before .before .leaf2 .ensures .1))))
+    (λ c. c .before .before .leaf .ensures))
     (λ t. repeat-lts.spec (
       lower primary-kinds.ps μ-primary primary.Pre t,
       primary.Post,

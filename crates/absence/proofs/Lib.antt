@@ -1,0 +1,4 @@
+pub mod Theorems
+pub mod Sharing
+pub mod Cutting
+pub mod Alternating
