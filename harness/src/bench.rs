@@ -5,7 +5,7 @@ use std::time::{Duration, Instant};
 
 use crate::examples::{pulses, recording, with_runs};
 use crate::finder::{self, Returned, WORK_WORDS};
-use crate::lesson::PURSE;
+use crate::lesson::DRILL_ROUNDS;
 use crate::proved::{self, Proved};
 use crate::quick::QuickList;
 use crate::random::Rng;
@@ -565,17 +565,17 @@ fn told_rounds() -> Vec<Row> {
     let drive = accepted(ordinary_drive, &ordinary);
     let mut rows: Vec<Row> = ordinary
         .into_iter()
-        .map(|drill| Row::new(drill, drive.clone(), drill).told(PURSE))
+        .map(|drill| Row::new(drill, drive.clone(), drill).told(DRILL_ROUNDS))
         .collect();
     let run = |left: u64| {
         let name = format!("(a{{0,1}})*, one run of 10000, told {left}");
         Row::new(name, apart(1, 10_000), "(a{0,1})*").told(left)
     };
-    rows.extend([run(PURSE), run(10_000), run(5_000), run(0)]);
+    rows.extend([run(DRILL_ROUNDS), run(10_000), run(5_000), run(0)]);
     rows.extend([
-        Row::new("(a{0,1})*, 127 runs of 200", apart(127, 200), "(a{0,1})*").told(PURSE),
-        Row::new("(a{1,1})*, one run of 120", apart(1, 120), "(a{1,1})*").told(PURSE),
-        Row::new("(a{1,1})*, one run of 200", apart(1, 200), "(a{1,1})*").told(PURSE),
+        Row::new("(a{0,1})*, 127 runs of 200", apart(127, 200), "(a{0,1})*").told(DRILL_ROUNDS),
+        Row::new("(a{1,1})*, one run of 120", apart(1, 120), "(a{1,1})*").told(DRILL_ROUNDS),
+        Row::new("(a{1,1})*, one run of 200", apart(1, 200), "(a{1,1})*").told(DRILL_ROUNDS),
     ]);
     rows
 }
@@ -629,7 +629,8 @@ fn neighbours_in_a_row(each: u32) -> Vec<u8> {
     )
 }
 
-/// A drill that spends any number of rounds up to a whole purse over lists of one length.
+/// A drill that spends any number of rounds, up to all that a drill of a sheet has, over lists of one
+/// length.
 struct Spender {
     name: &'static str,
     recording: Vec<u8>,
@@ -683,10 +684,10 @@ fn best_of_few(row: &Row, proved: Option<Proved>) -> Result<Times, String> {
     Ok(best)
 }
 
-/// Lists from the shortest to the longest, each with a run on which the rounds do not end before a
-/// purse does.
+/// Lists from the shortest to the longest, each with a run on which the rounds do not end before those
+/// of a drill do.
 fn spenders() -> Vec<Spender> {
-    let endless = (0, PURSE as u32 + 1);
+    let endless = (0, DRILL_ROUNDS as u32 + 1);
     let behind = endless.1 + 1;
     let crowd: Vec<(u32, u32)> = (0..126)
         .map(|k| (behind + 2 * k, behind + 2 * k + 1))
@@ -699,7 +700,7 @@ fn spenders() -> Vec<Spender> {
             recording: with_runs(behind, &[&[endless]]),
             drill: "(a{0,1})*",
             first: 0,
-            timed: PURSE,
+            timed: DRILL_ROUNDS,
         },
         Spender {
             name: "127 zones, 127 inner, each touches itself",
@@ -726,7 +727,7 @@ fn spenders() -> Vec<Spender> {
     ]
 }
 
-/// Prints what a round costs, and what all rounds of a sheet would cost at that.
+/// Prints what a round costs, and what all rounds of a drill would cost at that.
 pub fn purse() -> Result<(), String> {
     let proved = proved::linked();
     say_what_is_linked(proved);
@@ -738,10 +739,13 @@ pub fn purse() -> Result<(), String> {
     for (name, round) in &rounds {
         println!("{name:<46} {}", round.columns());
     }
-    let purse = format!("{PURSE} rounds, in milliseconds");
+    let purse = format!("A drill's {DRILL_ROUNDS} rounds, in milliseconds");
     println!("\n{purse:<46} {}", heads());
     for (name, round) in rounds {
-        println!("{name:<46} {}", round.times(PURSE as f64 / 1e3).columns());
+        println!(
+            "{name:<46} {}",
+            round.times(DRILL_ROUNDS as f64 / 1e3).columns()
+        );
     }
     Ok(())
 }

@@ -5,10 +5,11 @@ use std::time::{Duration, Instant};
 
 use crate::brute;
 use crate::by_times::TriedList;
-use crate::compare::{Call, Chain, Outcome, Sheet};
+use crate::compare::{Call, Chain, Outcome, Rounds, Sheet, Taught};
 use crate::drill::Drill;
+use crate::exchange::Lines;
 use crate::finder::{self, Found, Returned, WORK_WORDS};
-use crate::inputs::{self, Input};
+use crate::inputs::{self, DrillsInput, Input, SheetInput};
 use crate::lent::Lent;
 use crate::lesson;
 use crate::proved::{self, Proved, LESSON_ROOM};
@@ -28,6 +29,9 @@ const MAX_TRIED: usize = 8;
 /// Pairs of zones that the rounds of one drill may compose; the few cases with a drill above it are
 /// passed over.
 const MOST_PAIRS: u64 = 400_000;
+/// One case in so many, the first one too, is a lesson with a drill that spends all its rounds: each time
+/// one is run takes thousandths of a second.
+const GREEDY: u64 = 8_000;
 
 pub struct Campaign {
     pub seed: u64,
@@ -66,6 +70,7 @@ impl Campaign {
         let mut rng = Rng::new(self.seed, case);
         // A lesson or a chain is several calls, so it comes up less often than one call.
         let compared = match rng.below(40) {
+            _ if case.is_multiple_of(GREEDY) => greedy_case(&mut rng, proved, tally),
             0 => lesson_case(&mut rng, proved, tally),
             1 => chain_case(&mut rng, proved, tally),
             _ => call_case(&mut rng, proved, tally),
@@ -241,7 +246,9 @@ fn note_told(outcome: &Outcome, tally: &mut Tally) {
     tally.last_rounds += u64::from(took_the_last);
 }
 
-/// Several drills in a row, with about as many rounds as they need together, or fewer.
+/// Several drills in a row, with about as many rounds as they need together, or fewer: what is left is
+/// handed on from call to call. That is no lesson, in which each drill has rounds of its own; it tries
+/// the call that is told the rounds left on whatever another call left.
 fn chain_case(rng: &mut Rng, proved: Option<Proved>, tally: &mut Tally) -> Result<(), String> {
     let input = inputs::chain(rng);
     let drills: Vec<&[u8]> = input.drills.iter().map(Vec::as_slice).collect();
@@ -251,7 +258,7 @@ fn chain_case(rng: &mut Rng, proved: Option<Proved>, tally: &mut Tally) -> Resul
         return Ok(());
     }
     let needed = rounds_of(&input.recording, &drills, &lent);
-    let purse = if rng.once_in(2) {
+    let rounds = if rng.once_in(2) {
         rng.below(needed + 1)
     } else {
         rounds_about(rng, needed)
@@ -259,14 +266,14 @@ fn chain_case(rng: &mut Rng, proved: Option<Proved>, tally: &mut Tally) -> Resul
     let chain = Chain {
         recording: &input.recording,
         drills: &drills,
-        purse,
+        rounds: Rounds::HandedOn(rounds),
         lent: &lent,
     };
     let outcomes = chain.compare(proved).map_err(|fault| {
         let drills: String = drills.iter().map(|one| escaped("drill", one)).collect();
         let lengths = lengths(&lent);
         let recording = hex(&input.recording);
-        format!("{fault}\n{recording}{drills}{purse} rounds\n{lengths}")
+        format!("{fault}\n{recording}{drills}{rounds} rounds\n{lengths}")
     })?;
     note_chain(&outcomes, tally);
     Ok(())
@@ -304,33 +311,91 @@ fn none_is_slow(recording: &[u8], drills: &[&[u8]]) -> bool {
     })
 }
 
+/// A sheet with a drill that spends all its rounds, and buffers in which the others have room.
+fn greedy_case(rng: &mut Rng, proved: Option<Proved>, tally: &mut Tally) -> Result<(), String> {
+    let DrillsInput { recording, drills } = inputs::greedy(rng);
+    let mut drills: Vec<&[u8]> = drills.iter().map(Vec::as_slice).collect();
+    drills.retain(|drill| none_is_slow(&recording, &[drill]));
+    let text = lesson::sheet_of(&drills);
+    let lent = Lent::of(MAX_ZONES * WORDS, WORK_WORDS, rng);
+    compare_sheet(rng, &SheetInput { recording, text }, &lent, proved, tally)
+}
+
 /// A whole sheet.
 fn lesson_case(rng: &mut Rng, proved: Option<Proved>, tally: &mut Tally) -> Result<(), String> {
     let input = inputs::sheet(rng);
     let lent = lent_to_several(rng);
-    let room = LESSON_ROOM + *rng.pick(&[0, 0, 1, 999]);
     let drills = lesson::drills(&input.text).unwrap_or_default();
     if !none_is_slow(&input.recording, &drills) {
         tally.passed_over += 1;
         return Ok(());
     }
+    compare_sheet(rng, &input, &lent, proved, tally)
+}
+
+fn compare_sheet(
+    rng: &mut Rng,
+    input: &SheetInput,
+    lent: &Lent,
+    proved: Option<Proved>,
+    tally: &mut Tally,
+) -> Result<(), String> {
+    let room = LESSON_ROOM + *rng.pick(&[0, 0, 1, 999]);
     let sheet = Sheet {
         recording: &input.recording,
         text: &input.text,
-        lent: &lent,
+        lent,
     };
-    let taught = sheet
-        .compare(proved, room, MAX_BRUTE_TICKS)
+    let compared = sheet.compare(proved, room, MAX_BRUTE_TICKS);
+    compared
+        .and_then(|taught| {
+            note_lesson(&taught, tally);
+            compare_lines(rng, &sheet, &taught, proved, tally)
+        })
         .map_err(|fault| {
             let text = escaped("sheet", &input.text);
-            let lengths = lengths(&lent);
+            let lengths = lengths(lent);
             let recording = hex(&input.recording);
             format!("{fault}\n{recording}{text}{lengths}room for {room} bytes\n")
-        })?;
+        })
+}
+
+/// Two lines of the sheet exchanged, which may be the same one, and each line alone.
+fn compare_lines(
+    rng: &mut Rng,
+    sheet: &Sheet,
+    taught: &Taught,
+    proved: Option<Proved>,
+    tally: &mut Tally,
+) -> Result<(), String> {
+    let lines = Lines::of(sheet, &taught.lesson);
+    if lines.count() == 0 {
+        return Ok(());
+    }
+    let print = |text: &[u8]| Sheet { text, ..*sheet }.printed(proved);
+    let [one, other] = [0, 0].map(|_| rng.below(lines.count() as u64) as usize);
+    lines.check_exchanged(one, other, print)?;
+    tally.exchanged += u64::from(lines.differ(one, other));
+    for line in 0..lines.count() {
+        lines.check_alone(line, print)?;
+        tally.lines_alone += 1;
+    }
+    Ok(())
+}
+
+fn note_lesson(taught: &Taught, tally: &mut Tally) {
     tally.lessons.note(taught.lesson.number);
     tally.stretches += taught.stretches;
-    note_chain(&taught.drills, tally);
-    Ok(())
+    let mut is_behind = false;
+    for outcome in &taught.drills {
+        note_told(outcome, tally);
+        let Returned { number, rounds, .. } = outcome.returned;
+        // Every star has a round at least.
+        tally.behind_greedy += u64::from(is_behind && rounds > 0);
+        let is_stopped = number == Refusal::RoundsSpent.number();
+        tally.greedy += u64::from(is_stopped);
+        is_behind |= is_stopped;
+    }
 }
 
 fn compare_front(

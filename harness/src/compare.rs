@@ -5,7 +5,7 @@
 use crate::brute;
 use crate::finder::{self, Found, Returned};
 use crate::lent::{Lent, MARGIN};
-use crate::lesson::{self, Lesson};
+use crate::lesson::{self, Lesson, Marked, DRILL_ROUNDS};
 use crate::proved::{Proved, LESSON_ROOM, NO_ROOM};
 use crate::quick::QuickList;
 use crate::zones::{Allowed, ZoneList};
@@ -242,13 +242,22 @@ impl Outcome {
     }
 }
 
-/// Drills in order over one recording: each is told the rounds that the one before it left, and lent
-/// the buffers as that one left them.
+/// Calls on drills in order over one recording, each lent the buffers as the one before it left them.
 pub struct Chain<'a> {
     pub recording: &'a [u8],
     pub drills: &'a [&'a [u8]],
-    pub purse: u64,
+    pub rounds: Rounds,
     pub lent: &'a Lent,
+}
+
+/// The rounds that the calls of a chain are told.
+#[derive(Clone, Copy)]
+pub enum Rounds {
+    /// So many for each call, as for the drills of a lesson.
+    Each(u64),
+    /// So many for the first call, and for each other one those that the one before it left. No lesson
+    /// does so, but a caller may.
+    HandedOn(u64),
 }
 
 impl Chain<'_> {
@@ -256,20 +265,29 @@ impl Chain<'_> {
     /// proved library.
     pub fn compare(&self, proved: Option<Proved>) -> Result<Vec<Outcome>, String> {
         let mut outcomes: Vec<Outcome> = Vec::new();
-        let mut left = self.purse;
         for (drill, number) in self.drills.iter().zip(1..) {
-            let lent = outcomes.last().map_or(self.lent, |before| &before.after);
+            let before = outcomes.last();
             let call = Call {
                 recording: self.recording,
                 drill,
-                lent,
+                lent: before.map_or(self.lent, |before| &before.after),
             };
-            let outcome = call.compare_told(left, &call.plain(None), proved);
-            let outcome = outcome.map_err(|fault| format!("drill {number}: {fault}"))?;
-            left = outcome.left.unwrap_or(left);
-            outcomes.push(outcome);
+            let told = self.rounds.after(before);
+            let outcome = call.compare_told(told, &call.plain(None), proved);
+            outcomes.push(outcome.map_err(|fault| format!("drill {number}: {fault}"))?);
         }
         Ok(outcomes)
+    }
+}
+
+impl Rounds {
+    /// What the next call is told, after the one before it, if there is any.
+    fn after(self, before: Option<&Outcome>) -> u64 {
+        let handed_on = before.and_then(|before| before.left);
+        match self {
+            Rounds::Each(rounds) => rounds,
+            Rounds::HandedOn(rounds) => handed_on.unwrap_or(rounds),
+        }
     }
 }
 
@@ -308,6 +326,7 @@ impl Sheet<'_> {
         let drills = self.check_drills(&lesson, &after, proved)?;
         if let Some(proved) = proved {
             self.compare_whole(&lesson, &after, proved, room)?;
+            self.compare_without_room(proved)?;
         }
         let stretches = self.try_fractions(&lesson, brute_ticks)?;
         Ok(Taught {
@@ -315,6 +334,15 @@ impl Sheet<'_> {
             drills,
             stretches,
         })
+    }
+
+    /// What is printed by the plain lesson, and just so by the proved library, where it is linked.
+    pub fn printed(&self, proved: Option<Proved>) -> Result<String, String> {
+        let (lesson, after) = self.plain();
+        if let Some(proved) = proved {
+            self.compare_whole(&lesson, &after, proved, LESSON_ROOM)?;
+        }
+        Ok(lesson.text)
     }
 
     fn plain(&self) -> (Lesson, Lent) {
@@ -325,15 +353,16 @@ impl Sheet<'_> {
     }
 
     /// The drills of a sheet that is run, in the order of its lines.
-    fn drills(&self, lesson: &Lesson) -> Vec<&[u8]> {
+    pub fn drills(&self, lesson: &Lesson) -> Vec<&[u8]> {
         match lesson.number {
             0 => lesson::drills(self.text).expect("a sheet that is run has drills"),
             _ => Vec::new(),
         }
     }
 
-    /// The chain of the sheet's drills comes to the lesson's results and leaves what it leaves; of a
-    /// sheet that is refused there is none, so both buffers are left as they were.
+    /// The chain of the sheet's drills, each told the rounds of a drill, comes to the lesson's results
+    /// and leaves what it leaves; of a sheet that is refused there is none, so both buffers are left as
+    /// they were.
     fn check_drills(
         &self,
         lesson: &Lesson,
@@ -343,13 +372,14 @@ impl Sheet<'_> {
         let chain = Chain {
             recording: self.recording,
             drills: &self.drills(lesson),
-            purse: lesson::PURSE,
+            rounds: Rounds::Each(DRILL_ROUNDS),
             lent: self.lent,
         };
         let outcomes = chain.compare(proved)?;
         let results = outcomes.iter().map(|one| (one.returned, one.left));
+        let left = |one: &Marked| DRILL_ROUNDS - one.spent;
         let marked = lesson.drills.iter();
-        if !results.eq(marked.map(|one| (one.returned, Some(one.left)))) {
+        if !results.eq(marked.map(|one| (one.returned, Some(left(one))))) {
             return Err("the plain lesson and its drills one by one do not agree".into());
         }
         let last = outcomes.last().map_or(self.lent, |last| &last.after);
@@ -395,8 +425,7 @@ impl Sheet<'_> {
         if !is_unwritten(behind) {
             return Err("proved wrote behind what it printed".into());
         }
-        called.after.check_equal("proved", after)?;
-        self.compare_without_room(proved)
+        called.after.check_equal("proved", after)
     }
 
     /// With too little room for what it prints the call does nothing.
@@ -464,6 +493,7 @@ mod tests {
     use super::*;
     use crate::examples::{recording, recording_r};
     use crate::finder::WORK_WORDS;
+    use crate::lesson::wrong;
     use crate::proved::{Lesson as ProvedLesson, Within};
     use crate::random::Rng;
 
@@ -628,10 +658,12 @@ mod tests {
     /// The first complaint about a few sheets.
     fn complaint_about_sheets(lesson: ProvedLesson) -> Option<String> {
         let proved = Proved { lesson, ..HONEST };
-        let spending = recording(1_000_010, 1, &[(0, 1)]);
-        let sheets: [(Vec<u8>, &str); 5] = [
+        let [just_enough, one_more] =
+            [1_000_000, 1_000_010].map(|duration| recording(duration, 1, &[(0, 1)]));
+        let sheets: [(Vec<u8>, &str); 6] = [
             (recording_r(), "_|a\na)\na\n"),
-            (spending, "(a{0,1})*\n_*\na\n"),
+            (just_enough, "(a{0,1})*\n_*\na\n"),
+            (one_more, "(a{0,1})*\n_*\na\n"),
             (recording_r(), "a\n\n"),
             (vec![], "\n"),
             (vec![0; 8], "a\n"),
@@ -653,12 +685,12 @@ mod tests {
         assert_eq!(complaint_about_sheets(honest_lesson), None);
     }
 
-    /// A lesson whose drills are run by `run`, which is told the rounds left.
+    /// A lesson whose drills are run by `run`.
     fn lesson_by(
         recording: &[u8],
         text: &[u8],
         room: (&mut [u8], &mut u64),
-        run: &mut dyn FnMut(&[u8], u64) -> lesson::Marked,
+        run: impl FnOnce(&[&[u8]]) -> Vec<Marked>,
     ) -> u32 {
         let (out, size) = room;
         if out.len() < LESSON_ROOM {
@@ -669,58 +701,71 @@ mod tests {
             print(&refused.text, out, size);
             return refused.number;
         }
-        let mut left = lesson::PURSE;
-        let mut printed = String::new();
-        for (drill, number) in lesson::drills(text).expect("drills").iter().zip(1..) {
-            let marked = run(drill, left);
-            left = marked.left;
-            printed += &format!("{number}\n{}", marked.result);
-        }
+        let marked = run(&lesson::drills(text).expect("drills"));
+        let numbered = marked.iter().zip(1..);
+        let printed: String = numbered
+            .map(|(one, number)| format!("{number}\n{}", one.result))
+            .collect();
         print(&printed, out, size);
         0
-    }
-
-    fn one(
-        recording: &[u8],
-        drill: &[u8],
-        left: u64,
-        a: &mut [i32],
-        w: &mut [i32],
-    ) -> lesson::Marked {
-        lesson::run(recording, &[drill], left, a, w).remove(0)
     }
 
     #[test]
     fn a_lesson_in_other_words_is_no_complaint() {
         let same = |r: &[u8], t: &[u8], a: &mut [i32], w: &mut [i32], o: &mut [u8], s: &mut u64| {
-            lesson_by(r, t, (o, s), &mut |drill, left| one(r, drill, left, a, w))
+            lesson_by(r, t, (o, s), |drills| {
+                wrong::run(|_| DRILL_ROUNDS, r, drills, a, w)
+            })
         };
         assert_eq!(complaint_about_sheets(same), None);
     }
 
+    /// A lesson that tells its drills their rounds by a wrong rule.
+    fn told_wrong<const RULE: usize>(
+        recording: &[u8],
+        text: &[u8],
+        answer: &mut [i32],
+        work: &mut [i32],
+        out: &mut [u8],
+        size: &mut u64,
+    ) -> u32 {
+        let (_, rule) = wrong::RULES[RULE];
+        lesson_by(recording, text, (out, size), |drills| {
+            wrong::run(rule, recording, drills, answer, work)
+        })
+    }
+
+    #[test]
+    fn rounds_told_by_a_wrong_rule_are_found() {
+        let lessons: [ProvedLesson; wrong::RULES.len()] = [
+            told_wrong::<0>,
+            told_wrong::<1>,
+            told_wrong::<2>,
+            told_wrong::<3>,
+            told_wrong::<4>,
+        ];
+        for ((name, _), lesson) in wrong::RULES.iter().zip(lessons) {
+            assert!(complaint_about_sheets(lesson).is_some(), "{name}");
+        }
+    }
+
     #[test]
     fn faults_of_a_lesson_are_found() {
-        let faults: [(&str, ProvedLesson); 9] = [
-            ("each drill has a purse of its own", |r, t, a, w, o, s| {
-                lesson_by(r, t, (o, s), &mut |drill, _| {
-                    one(r, drill, lesson::PURSE, a, w)
-                })
-            }),
-            ("a refused drill spends nothing", |r, t, a, w, o, s| {
-                lesson_by(r, t, (o, s), &mut |drill, left| {
-                    let marked = one(r, drill, left, a, w);
-                    match marked.returned.number {
-                        0 => marked,
-                        _ => lesson::Marked { left, ..marked },
-                    }
+        let faults: [(&str, ProvedLesson); 8] = [
+            ("each drill has a round more", |r, t, a, w, o, s| {
+                lesson_by(r, t, (o, s), |drills| {
+                    lesson::run(r, drills, DRILL_ROUNDS + 1, a, w)
                 })
             }),
             ("each drill has buffers of its own", |r, t, a, w, o, s| {
                 let (answer, work) = (a.to_vec(), w.to_vec());
-                lesson_by(r, t, (o, s), &mut |drill, left| {
+                let mut alone = |drill: &&[u8]| {
                     a.copy_from_slice(&answer);
                     w.copy_from_slice(&work);
-                    one(r, drill, left, a, w)
+                    lesson::run(r, &[drill], DRILL_ROUNDS, a, w).remove(0)
+                };
+                lesson_by(r, t, (o, s), |drills| {
+                    drills.iter().map(&mut alone).collect()
                 })
             }),
             ("the size is one too many", |r, t, a, w, o, s| {

@@ -98,7 +98,7 @@ pub fn spending_drive() -> Vec<u8> {
     let g = &[(0, 128)];
     // `(h{1,1})*` just fits, after 127 rounds.
     let h = &[(0, 127)];
-    // 128 less than a whole purse, and one more than it.
+    // 128 rounds less than a drill of a sheet has, and one more.
     let i = &[(0, 99_872)];
     let j = &[(0, 100_001)];
     with_runs(100_100, &[a, b, c, d, e, f, g, h, i, j])

@@ -2,6 +2,7 @@
 //! small enough for brute force, many of them wrong.
 
 use crate::drill::{Band, Drill};
+use crate::examples::with_runs;
 use crate::random::{self, Rng, Taste};
 use crate::recording::{encode, Change, Head, MAX_LENGTH, RECORD};
 
@@ -20,7 +21,7 @@ pub struct SheetInput {
 
 /// A recording and several drills for it.
 #[derive(Clone, Debug)]
-pub struct ChainInput {
+pub struct DrillsInput {
     pub recording: Vec<u8>,
     pub drills: Vec<Vec<u8>>,
 }
@@ -51,8 +52,8 @@ pub fn any(rng: &mut Rng) -> Input {
 /// Bytes that a damaged drill may have anywhere.
 const DRILL_BYTES: &[u8] = b"_abcp!+-~()|&.*{},<0123456789q \n\xFF";
 
-/// A sheet of any form: no line to ten of them, now and then an empty one, a carriage return or no
-/// last newline, and lines of all lengths.
+/// A sheet of any form: no line to ten of them, now and then an empty one, one that is there twice, a
+/// carriage return or no last newline, and lines of all lengths.
 pub fn sheet(rng: &mut Rng) -> SheetInput {
     let (mut recording, channels) = any_drive(rng);
     let lines = match rng.below(20) {
@@ -62,10 +63,13 @@ pub fn sheet(rng: &mut Rng) -> SheetInput {
         3..6 => 8,
         _ => rng.between(1, 7),
     };
-    let mut text = Vec::new();
-    for _ in 0..lines {
-        text.extend(any_line(rng, channels));
+    let mut lines: Vec<Vec<u8>> = (0..lines).map(|_| any_line(rng, channels)).collect();
+    if !lines.is_empty() && rng.once_in(8) {
+        let twice = rng.pick(&lines).clone();
+        let at = rng.below(lines.len() as u64) as usize;
+        lines[at] = twice;
     }
+    let mut text = lines.concat();
     if rng.once_in(20) {
         text.pop();
     }
@@ -97,7 +101,7 @@ fn any_line(rng: &mut Rng, channels: u8) -> Vec<u8> {
 }
 
 /// Several drills over one recording, most of them with rounds to be spent.
-pub fn chain(rng: &mut Rng) -> ChainInput {
+pub fn chain(rng: &mut Rng) -> DrillsInput {
     let (recording, channels) = any_drive(rng);
     let mut drill = || {
         if rng.once_in(2) {
@@ -106,10 +110,58 @@ pub fn chain(rng: &mut Rng) -> ChainInput {
             any_drill(rng, channels)
         }
     };
-    ChainInput {
+    DrillsInput {
         recording,
         drills: (0..6).map(|_| drill()).collect(),
     }
+}
+
+/// Drills for the lines of a sheet, over a drive in which `a` is high for about as many ticks as a drill
+/// has rounds: two that take about as many rounds, one that takes far more, behind it one with a star
+/// that takes few, and up to four others of any kind in between.
+pub fn greedy(rng: &mut Rng) -> DrillsInput {
+    let about_as_many = [
+        "(a{0,1})*",
+        "(a{0,<1})*",
+        "(a{0,1})**",
+        "(a{0,1})*.(b{0,1})*",
+        "(b{0,1})*|(a{0,1})*",
+        "~(a{0,1})*&(c{1,1})*",
+    ];
+    let far_more = [
+        "(a{0,1})*|(a{0,1})*",
+        "((a{0,1})*.(a{0,1})*){1,}",
+        "b.~((a{0,1})*&(a{0,1})*)",
+    ];
+    let few = [
+        "(b{0,1})*",
+        "(c{1,1})*",
+        "(b|c)*",
+        "~(b{1,2})*",
+        "(+c|-b)*",
+        "_*",
+    ];
+    let mut drills: Vec<Vec<u8>> = vec![(*rng.pick(&far_more)).into(), (*rng.pick(&few)).into()];
+    let mut others: Vec<Vec<u8>> = (0..rng.below(5)).map(|_| any_drill(rng, 3)).collect();
+    others.retain(|drill| !drill.is_empty() && !drill.contains(&b'\n'));
+    others.extend([0, 0].map(|_| Vec::from(*rng.pick(&about_as_many))));
+    for other in others {
+        let at = rng.below(drills.len() as u64 + 1) as usize;
+        drills.insert(at, other);
+    }
+    DrillsInput {
+        recording: greedy_drive(rng),
+        drills,
+    }
+}
+
+/// `a` is high for about 100,000 ticks, `b` and `c` for a few.
+fn greedy_drive(rng: &mut Rng) -> Vec<u8> {
+    let high = rng.between(99_985, 100_005);
+    let b = rng.between(1, 12);
+    let c = rng.between(0, 12);
+    let channels: [&[(u32, u32)]; 3] = [&[(0, high)], &[(0, b)], &[(c, c + b)]];
+    with_runs(high + rng.between(0, 20), &channels)
 }
 
 /// A sound recording and its number of channels: mostly one for brute force, now and then one with
@@ -594,10 +646,11 @@ fn damage(rng: &mut Rng, bytes: &mut Vec<u8>, alphabet: &[u8]) {
 #[cfg(test)]
 mod tests {
     use super::*;
-    use crate::finder::{find, WORK_WORDS};
-    use crate::lesson::drills;
+    use crate::finder::{find, find_unless_slow, WORK_WORDS};
+    use crate::lesson::{drills, sheet_of, DRILL_ROUNDS};
     use crate::recording::{times, FirstReport, Recording};
     use crate::refusal::Refusal;
+    use std::ops::RangeInclusive;
 
     /// Halves are among durations and among changes, the lower tick even (5) or odd (15).
     #[test]
@@ -837,6 +890,39 @@ mod tests {
                 refused(sheet).is_some_and(|fault| fault.refusal == cause)
             });
         }
+    }
+
+    /// A drill that takes more rounds than it has on a sheet always stands before one with a star that
+    /// takes fewer. Those about the edge come up on either side of it.
+    #[test]
+    fn greedy_drills_come_up_before_modest_ones() {
+        let mut rng = Rng::new(1, 14);
+        let (mut within, mut beyond) = (0, 0);
+        for _ in 0..16 {
+            let input = greedy(&mut rng);
+            let lines: Vec<&[u8]> = input.drills.iter().map(Vec::as_slice).collect();
+            assert_eq!(drills(&sheet_of(&lines)).as_ref(), Some(&lines));
+            let (mut answer, mut work) = ([0; 768], [0; WORK_WORDS]);
+            let rounds_of = |drill: &&[u8]| {
+                let recording = &input.recording;
+                let found = find_unless_slow(recording, drill, &mut answer, &mut work, 400_000);
+                found.map_or(0, |found| found.returned.rounds)
+            };
+            let rounds: Vec<u64> = lines.iter().map(rounds_of).collect();
+            let first = rounds.iter().position(|&rounds| rounds > DRILL_ROUNDS);
+            let behind = &rounds[first.expect("a greedy drill")..];
+            assert!(
+                behind.iter().any(|few| (1..=20).contains(few)),
+                "{rounds:?}"
+            );
+            let count = |about: RangeInclusive<u64>| {
+                let inside = rounds.iter().filter(|rounds| about.contains(rounds));
+                inside.count()
+            };
+            within += count(DRILL_ROUNDS - 50..=DRILL_ROUNDS);
+            beyond += count(DRILL_ROUNDS + 1..=DRILL_ROUNDS + 50);
+        }
+        assert!(within >= 3 && beyond >= 3, "{within} {beyond}");
     }
 
     /// Drills with a `<` are accepted and refused often enough, by 5 and by 7.

@@ -1,8 +1,8 @@
-//! The plain lesson: a sheet of drills over one recording, by CR 4 of document 02.
+//! The plain lesson: a sheet of drills over one recording, by CR 4 and CR 8 of document 02.
 //!
 //! The recording and the form of the sheet are checked before any drill. Then the drills are run in
-//! order: each is told the rounds that the ones before it left, and finds both buffers as they left
-//! them.
+//! order: each has 100,000 rounds of its own, whatever the others spend, and finds both buffers as the
+//! ones before it left them.
 
 use crate::finder::{find_with_rounds, listed, Returned};
 use crate::recording::Recording;
@@ -10,8 +10,8 @@ use crate::refusal::Refusal;
 use crate::sheet;
 use crate::zone::Zone;
 
-/// Rounds that all drills of a sheet have together.
-pub const PURSE: u64 = 100_000;
+/// Rounds that each drill of a sheet has, counted from its first one.
+pub const DRILL_ROUNDS: u64 = 100_000;
 /// The most drills on a sheet.
 pub const MAX_DRILLS: usize = 8;
 
@@ -30,8 +30,8 @@ pub struct Lesson {
 #[derive(Clone, Debug, PartialEq, Eq)]
 pub struct Marked {
     pub returned: Returned,
-    /// Rounds left after it.
-    pub left: u64,
+    /// Rounds that it finishes, also where it is refused.
+    pub spent: u64,
     /// The zones that it lists.
     pub zones: Vec<Zone>,
     /// Its result, as `marks` prints it.
@@ -42,10 +42,10 @@ pub struct Marked {
 pub fn lesson(recording: &[u8], text: &[u8], answer: &mut [i32], work: &mut [i32]) -> Lesson {
     match drills_to_run(recording, text) {
         Ok(drills) => {
-            let drills = run(recording, &drills, PURSE, answer, work);
+            let drills = run(recording, &drills, DRILL_ROUNDS, answer, work);
             Lesson {
                 number: 0,
-                text: printed(&drills),
+                text: printed(drills.iter().map(|marked| marked.result.as_str())),
                 drills,
             }
         }
@@ -79,35 +79,107 @@ pub fn drills(text: &[u8]) -> Option<Vec<&[u8]>> {
     (!drills.is_empty()).then_some(drills)
 }
 
-/// Runs drills in order. Together they have as many rounds as the purse holds.
+/// The sheet of these drills, a line for each.
+pub fn sheet_of(drills: &[&[u8]]) -> Vec<u8> {
+    let lines = drills.iter().map(|drill| [drill, &b"\n"[..]].concat());
+    lines.flatten().collect()
+}
+
+/// Runs drills in order, each with so many rounds of its own.
 pub fn run(
     recording: &[u8],
     drills: &[&[u8]],
-    purse: u64,
+    rounds: u64,
     answer: &mut [i32],
     work: &mut [i32],
 ) -> Vec<Marked> {
-    let mut left = purse;
-    let mut mark = |drill: &&[u8]| {
-        let (returned, left_after) = find_with_rounds(recording, drill, left, answer, work);
-        left = left_after;
+    let mark = |drill: &&[u8]| {
+        let (returned, left) = find_with_rounds(recording, drill, rounds, answer, work);
         Marked {
             returned,
-            left,
+            spent: rounds - left,
             zones: listed(returned, answer),
             // The next drill writes over the zones.
             result: sheet::text(returned, answer),
         }
     };
-    drills.iter().map(&mut mark).collect()
+    drills.iter().map(mark).collect()
 }
 
 /// Before each result a line with only the drill's number, from 1.
-fn printed(drills: &[Marked]) -> String {
-    let numbered = drills.iter().zip(1..);
+pub fn printed<'a>(results: impl IntoIterator<Item = &'a str>) -> String {
+    let numbered = results.into_iter().zip(1..);
     numbered
-        .map(|(marked, number)| format!("{number}\n{}", marked.result))
+        .map(|(result, number)| format!("{number}\n{result}"))
         .collect()
+}
+
+/// Lessons that tell their drills other rounds than each its own.
+#[cfg(test)]
+pub mod wrong {
+    use super::{Marked, DRILL_ROUNDS};
+
+    /// The rounds that a drill is told, by what came of those before it on its sheet.
+    pub type Rule = fn(&[Marked]) -> u64;
+
+    pub const RULES: [(&str, Rule); 5] = [
+        ("the rounds left are handed on", handed_on),
+        ("only the first drill has rounds", only_the_first),
+        ("the sheet has 100,000 rounds besides", besides),
+        ("new rounds only after a refusal", after_a_refusal),
+        ("new rounds only after an acceptance", after_an_acceptance),
+    ];
+
+    fn handed_on(before: &[Marked]) -> u64 {
+        DRILL_ROUNDS - spent(before)
+    }
+
+    fn only_the_first(before: &[Marked]) -> u64 {
+        rounds_if(before.is_empty())
+    }
+
+    /// A drill that begins after the sheet's own rounds are spent has none.
+    fn besides(before: &[Marked]) -> u64 {
+        rounds_if(spent(before) < DRILL_ROUNDS)
+    }
+
+    fn after_a_refusal(before: &[Marked]) -> u64 {
+        let last = before.iter().rposition(|one| !one.returned.is_accepted());
+        handed_on(&before[last.map_or(0, |last| last + 1)..])
+    }
+
+    fn after_an_acceptance(before: &[Marked]) -> u64 {
+        let last = before.iter().rposition(|one| one.returned.is_accepted());
+        handed_on(&before[last.map_or(0, |last| last + 1)..])
+    }
+
+    fn spent(drills: &[Marked]) -> u64 {
+        drills.iter().map(|one| one.spent).sum()
+    }
+
+    fn rounds_if(any: bool) -> u64 {
+        if any {
+            DRILL_ROUNDS
+        } else {
+            0
+        }
+    }
+
+    /// Runs drills in order, told their rounds by a rule.
+    pub fn run(
+        rule: Rule,
+        recording: &[u8],
+        drills: &[&[u8]],
+        answer: &mut [i32],
+        work: &mut [i32],
+    ) -> Vec<Marked> {
+        let mut marked = Vec::new();
+        for drill in drills {
+            let rounds = rule(&marked);
+            marked.extend(super::run(recording, &[drill], rounds, answer, work));
+        }
+        marked
+    }
 }
 
 #[cfg(test)]
@@ -252,30 +324,36 @@ mod tests {
         }
     }
 
+    /// The number of each drill and the rounds that are spent on it.
+    fn numbers_and_spent(drills: &[Marked]) -> Vec<(u32, u64)> {
+        let each = drills.iter().map(|one| (one.returned.number, one.spent));
+        each.collect()
+    }
+
     /// `(a{0,1})*` takes 5 rounds on R, `(a{2,2})*` 2, `_*` 1 and `a` none.
     #[test]
-    fn drills_share_the_rounds() {
+    fn each_drill_has_rounds_of_its_own() {
         let drills: [&[u8]; 6] = [b"(a{0,1})*", b"a", b"(a{2,2})*", b"_*", b"a", b"_*"];
-        let numbers_and_left = |purse| {
+        let each_with = |rounds| {
             let mut answer = [7; MAX_ZONES * WORDS];
             let r = recording_r();
-            let marked = run(&r, &drills, purse, &mut answer, &mut [7; WORK_WORDS]);
-            let pairs = marked.iter().map(|one| (one.returned.number, one.left));
-            pairs.collect::<Vec<_>>()
+            let marked = run(&r, &drills, rounds, &mut answer, &mut [7; WORK_WORDS]);
+            numbers_and_spent(&marked)
         };
-        let accepted = |left: [u64; 6]| left.map(|left| (0, left)).to_vec();
-        assert_eq!(numbers_and_left(9), accepted([4, 4, 2, 1, 1, 0]));
-        assert_eq!(numbers_and_left(10), accepted([5, 5, 3, 2, 2, 1]));
-        let spent = (13, 0);
-        let all_but_the_last = [(0, 3), (0, 3), (0, 1), (0, 0), (0, 0), spent];
-        assert_eq!(numbers_and_left(8), all_but_the_last);
-        // Two rounds are needed and one is left: it is spent in vain.
-        let in_vain = [(0, 1), (0, 1), spent, spent, (0, 0), spent];
-        assert_eq!(numbers_and_left(6), in_vain);
-        let from_the_start = [spent, (0, 0), spent, spent, (0, 0), spent];
-        for purse in 0..5 {
-            assert_eq!(numbers_and_left(purse), from_the_start, "{purse}");
+        let all = [(0, 5), (0, 0), (0, 2), (0, 1), (0, 0), (0, 1)];
+        for enough in [5, 6, 9, 100_000, u64::MAX] {
+            assert_eq!(each_with(enough), all, "{enough}");
         }
+        // The rounds of a drill that is stopped are spent in vain, and the others have theirs.
+        for few in [4, 3, 2] {
+            let [_, others @ ..] = all;
+            let all_but_the_first = [&[(13, few)][..], &others].concat();
+            assert_eq!(each_with(few), all_but_the_first, "{few}");
+        }
+        let one = [(13, 1), (0, 0), (13, 1), (0, 1), (0, 0), (0, 1)];
+        assert_eq!(each_with(1), one);
+        let none = [(13, 0), (0, 0), (13, 0), (13, 0), (0, 0), (13, 0)];
+        assert_eq!(each_with(0), none);
     }
 
     #[test]
@@ -285,7 +363,7 @@ mod tests {
         let marked = run(
             &recording_r(),
             &drills,
-            7,
+            5,
             &mut answer,
             &mut [7; WORK_WORDS],
         );
@@ -339,18 +417,30 @@ mod tests {
         assert_eq!((answer, work), (vec![7; 8], vec![9; WORK_WORDS]));
     }
 
-    /// By hand: where `a` is high for n ticks, `(a{0,1})*` takes n rounds.
+    /// By hand: where `a` is high for n ticks, `(a{0,1})*` takes n rounds, and `_*` takes one.
     #[test]
-    fn a_sheet_has_100_000_rounds() {
+    fn each_drill_has_100_000_rounds() {
         let drive = |ticks: u32| recording(10 * ticks, 1, &[(0, 1)]);
-        let numbers = |ticks, text: &str| {
-            let drills = on(&drive(ticks), text).drills;
-            let each = drills.iter().map(|one| (one.returned.number, one.left));
-            each.collect::<Vec<_>>()
-        };
-        let text = "(a{0,1})*\na\n_*\n";
-        assert_eq!(numbers(99_999, text), [(0, 1), (0, 1), (0, 0)]);
-        assert_eq!(numbers(100_000, text), [(0, 0), (0, 0), (13, 0)]);
-        assert_eq!(numbers(100_001, text), [(13, 0), (0, 0), (13, 0)]);
+        let numbers = |ticks, text: &str| numbers_and_spent(&on(&drive(ticks), text).drills);
+        let text = "(a{0,1})*\na\n_*\n(a{0,1})*|_*\n(a{0,1})*\n";
+        let (letter, diagonal) = ((0, 0), (0, 1));
+        let (all, stopped) = ((0, 100_000), (13, 100_000));
+        let one_less = [(0, 99_999), letter, diagonal, all, (0, 99_999)];
+        assert_eq!(numbers(99_999, text), one_less);
+        assert_eq!(
+            numbers(100_000, text),
+            [all, letter, diagonal, stopped, all]
+        );
+        assert_eq!(
+            numbers(100_001, text),
+            [stopped, letter, diagonal, stopped, stopped]
+        );
+    }
+
+    #[test]
+    fn the_sheet_of_some_drills_has_these_drills() {
+        let lines: [&[u8]; 3] = [b"a", b"(", b"_*"];
+        assert_eq!(sheet_of(&lines), b"a\n(\n_*\n");
+        assert_eq!(drills(&sheet_of(&lines)), Some(lines.to_vec()));
     }
 }

@@ -18,6 +18,7 @@ pub mod cases;
 pub mod compare;
 pub mod drill;
 pub mod examples;
+pub mod exchange;
 pub mod finder;
 pub mod first_reports;
 pub mod inputs;

@@ -21,7 +21,7 @@ usage:
   harness bench
       time the finders on the same inputs
   harness purse
-      time the rounds of a sheet, over short lists and long ones
+      time the rounds that a drill of a sheet has, over short lists and long ones
   harness pairs
       time a pair of zones without a time in common
   harness cases [--write-input PATH] [--write-output PATH]

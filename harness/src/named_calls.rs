@@ -129,9 +129,9 @@ fn stars() -> Vec<NamedCall> {
         (a{2,2})*.a          1 13 0,  2 0 0
         (a{2,2})*{1,3}       1 13 0,  2 0 0
     ";
-    let whole_purse = "(j{0,1})*  100000 13 0,  100001 0 0,  100002 0 1";
+    let rounds_of_a_drill = "(j{0,1})*  100000 13 0,  100001 0 0,  100002 0 1";
     let mut calls = table(&recording_r(), on_r);
-    calls.extend(table(&spending_drive(), whole_purse));
+    calls.extend(table(&spending_drive(), rounds_of_a_drill));
     calls
 }
 

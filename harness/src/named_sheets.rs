@@ -7,9 +7,10 @@ use crate::examples::{
     bracketed, late_pulses, low_start_r, one_change_too_many, pulses, recording, recording_r,
     spending_drive, with_runs,
 };
+use crate::exchange::Lines;
 use crate::finder::WORK_WORDS;
 use crate::lent::Lent;
-use crate::lesson::{Lesson, PURSE};
+use crate::lesson::Lesson;
 use crate::named_calls;
 use crate::program::Program;
 use crate::proved::{self, Proved, LESSON_ROOM};
@@ -22,6 +23,8 @@ use crate::zones::MAX_ZONES;
 const ANSWER_WORDS: usize = MAX_ZONES * WORDS;
 /// The longest drive, in ticks, that goes through brute force.
 const MAX_BRUTE_TICKS: u32 = 12;
+/// The most rounds of a sheet for all its lines to be exchanged.
+const MAX_EXCHANGED_ROUNDS: u64 = 500;
 
 /// Both files, where they are there, and what must come of them.
 struct NamedSheet {
@@ -110,7 +113,8 @@ impl NamedSheet {
         NamedSheet { text: None, ..self }
     }
 
-    /// The plain lesson, held to the numbers by hand and, where it is linked, to the proved library.
+    /// The plain lesson, held to the numbers by hand, to what its lines come to elsewhere and, where it
+    /// is linked, to the proved library.
     fn lesson(&self, proved: Option<Proved>) -> Result<Lesson, String> {
         let lent = Lent::of(self.answer_words, self.work_words, &mut Rng::new(1, 1));
         let sheet = Sheet {
@@ -123,6 +127,14 @@ impl NamedSheet {
         if found != self.expected {
             let expected = &self.expected;
             return Err(format!("by hand {expected:?}, plain matcher {found:?}"));
+        }
+        let lines = Lines::of(&sheet, &lesson);
+        let print = |text: &[u8]| Sheet { text, ..sheet }.printed(proved);
+        for (one, other) in exchanges(&lesson) {
+            lines.check_exchanged(one, other, print)?;
+        }
+        for line in 0..lines.count() {
+            lines.check_alone(line, print)?;
         }
         Ok(lesson)
     }
@@ -149,13 +161,20 @@ fn came_to(lesson: &Lesson) -> Expected {
     if lesson.number != 0 {
         return Expected::Alone(lesson.number);
     }
-    let mut left = PURSE;
-    let mut each = Vec::new();
-    for marked in &lesson.drills {
-        each.push((marked.returned.number, left - marked.left));
-        left = marked.left;
-    }
-    Expected::Each(each)
+    let drills = lesson.drills.iter();
+    Expected::Each(drills.map(|one| (one.returned.number, one.spent)).collect())
+}
+
+/// Pairs of lines to be exchanged: all of them, a line with itself too; but where the drills take long,
+/// the first line with the second and with the last.
+fn exchanges(lesson: &Lesson) -> Vec<(usize, usize)> {
+    let lines = lesson.drills.len();
+    let rounds: u64 = lesson.drills.iter().map(|marked| marked.spent).sum();
+    let all = (0..lines).flat_map(|one| (one..lines).map(move |other| (one, other)));
+    let is_chosen = |&(one, other): &(usize, usize)| {
+        rounds <= MAX_EXCHANGED_ROUNDS || one == 0 && (other == 1 || other + 1 == lines)
+    };
+    all.filter(is_chosen).collect()
 }
 
 /// Runs the program on every sheet, and the proved library, where it is linked, on every sheet and
@@ -190,6 +209,7 @@ fn all() -> Vec<NamedSheet> {
         purses(),
         operands(),
         nested(),
+        rounds_of_its_own(),
         full_lists(),
         refusals(),
         short_answers(),
@@ -281,11 +301,12 @@ fn first_reports() -> Vec<NamedSheet> {
         a)          5 0
     ";
     // `a` is low from tick 50 on, for 100,000 ticks.
-    let low_for_a_purse = recording(1_000_500, 1, &[(500, 0)]);
+    let low_for_100_000 = recording(1_000_500, 1, &[(500, 0)]);
     let just_enough = "
-        (!a{0,1})*  0 100000
-        !a          0      0
-        _*         13      0
+        (!a{0,1})*      0 100000
+        !a              0      0
+        (!a{0,1})*|_*  13 100000
+        _*              0      1
     ";
     let full = "
         !a   0 0
@@ -303,7 +324,7 @@ fn first_reports() -> Vec<NamedSheet> {
         ),
         NamedSheet::table(
             "just 100,000 rounds from the first report on",
-            &low_for_a_purse,
+            &low_for_100_000,
             just_enough,
         ),
         NamedSheet::table(
@@ -373,21 +394,24 @@ fn absences() -> Vec<NamedSheet> {
         ~_            0 0
         ~(a|~a)      10 0
     ";
-    let spent = "
-        (a{0,1})*          0 99990
-        ~(b{0,1})*         0    10
-        ~b                 0     0
-        ~(f)*             13     0
-        ~(~b.~c)           0     0
-        (~f)*             13     0
-        ~e                10     0
+    let just_enough = "
+        (a{0,1})*|~(b{0,1})*          0 100000
+        (a{0,1})*.(b{0,1})*|~b        0 100000
+        (a{0,1})*.(b{0,1})*|~(f)*    13 100000
+        (a{0,1})*.(b{0,1})*|~(~b.~c)  0 100000
+        (a{0,1})*.(b{0,1})*|(~f)*    13 100000
+        (a{0,1})*.(b{0,1})*|~e       10 100000
+        ~((a{0,1})*.(b{0,1})*)        0 100000
+        ~((a{0,1})*.(c{0,1})*)       13 100000
     ";
-    let stopped = "
-        (i{0,1})*          0 99872
-        ~(d{1,1})*        10   127
-        ~(f)*              0     1
-        ~_                 0     0
-        ~(b{0,1})*.~e     13     0
+    let in_the_operand = "
+        (i{0,1})*|~(d{1,1})*           10  99999
+        (i{0,1})*|_*|~(d{1,1})*        13 100000
+        (i{0,1})*|(h{1,1})*|~(f)*|~_    0 100000
+        (a{0,1})*|~(b{0,1})*.~e        10 100000
+        (a{0,1})*|_*|~(b{0,1})*.~e     13 100000
+        ~(d{1,1})*                     10    127
+        ~(f)*                           0      1
     ";
     vec![
         on_r("absences", of_r),
@@ -400,94 +424,102 @@ fn absences() -> Vec<NamedSheet> {
         NamedSheet::table("absences of 32 runs", &pulses(32), no_room),
         NamedSheet::table("10 in an operand", &late_pulses(32), in_an_operand),
         NamedSheet::table("absences of 129 runs", &pulses(129), too_long_itself),
-        spending("absences with just 100,000 rounds", spent),
-        spending("10 in the operand of an absence", stopped),
+        spending("absences with just 100,000 rounds", just_enough),
+        spending("10 and 13 in the operand of an absence", in_the_operand),
     ]
 }
 
-/// Sheets that spend their rounds to the last one, and those that want one more.
+/// Drills that spend their rounds to the last one, and those that want one more. Each operand of a join
+/// spends the rounds that those before it have left.
 fn purses() -> Vec<NamedSheet> {
     let one_run = |ticks: u32| recording(10 * ticks, 1, &[(0, 1)]);
     let just_enough = "
-        (a{0,1})*  0 99990
-        (b{0,1})*  0    10
-        a.!a       0     0
-        b&c        0     0
-        _          0     0
+        (a{0,1})*.(b{0,1})*           0 100000
+        (b{0,1})*|(a{0,1})*           0 100000
+        (a{0,1})*.(b{0,1})*|a.!a      0 100000
+        (a{0,1})*.(b{0,1})*&b&c       0 100000
+        ((a{0,1})*.(b{0,1})*|_){2,5}  0 100000
+        a.!a                          0      0
+        b&c                           0      0
+        _                             0      0
     ";
     let one_more = "
-        (a{0,1})*   0 99990
-        (c{0,1})*  13    10
-        a           0     0
-        _*         13     0
-        a|b         0     0
-        (f)*       13     0
-        c           0     0
+        (a{0,1})*.(c{0,1})*       13 100000
+        (c{0,1})*.(a{0,1})*       13 100000
+        a                          0      0
+        (a{0,1})*.(b{0,1})*|_*    13 100000
+        a|b                        0      0
+        (a{0,1})*.(b{0,1})*|(f)*  13 100000
+        (f)*                       0      1
+        c                          0      0
     ";
-    let all_at_once = "
-        (a{0,1})*   0 100000
-        a           0      0
-        _*         13      0
+    let in_one_star = "
+        (a{0,1})*      0 100000
+        a              0      0
+        (a{0,1})*|_*  13 100000
+        _*             0      1
     ";
-    let one_more_at_once = "
+    let one_more_in_one_star = "
         (a{0,1})*  13 100000
         a           0      0
-        _*         13      0
+        _*          0      1
     ";
     let first_spends_all = "
-        (j{0,1})*  13 100000
-        j           0      0
-        (b{0,1})*  13      0
-        +e         10      0
-        b)          5      0
-        b.c         0      0
+        (j{0,1})*               13 100000
+        j                        0      0
+        (b{0,1})*                0     10
+        +e                      10      0
+        b)                       5      0
+        b.c                      0      0
+        (a{0,1})*.(b{0,1})*|+e  10 100000
     ";
     let in_the_last_round = "
-        (i{0,1})*   0 99872
-        (d{1,1})*  10   127
-        _*          0     1
-        _*         13     0
-        d           0     0
+        (i{0,1})*|(d{1,1})*     10  99999
+        (d{1,1})*|(i{0,1})*     10    127
+        (i{0,1})*|(h{1,1})*|_*   0 100000
+        d                        0      0
     ";
     let at_the_round_of_10 = "
-        (i{0,1})*   0 99872
-        _*          0     1
-        (d{1,1})*  13   127
-        d           0     0
-        (d{1,1})*  13     0
+        (i{0,1})*|_*|(d{1,1})*         13 100000
+        _*.(i{0,1})*.(d{1,1})*         13 100000
+        d                               0      0
+        (a{0,1})*.(b{0,1})*|(d{1,1})*  13 100000
+        (d{1,1})*                      10    127
     ";
     let after_the_last_round = "
-        (i{0,1})*   0 99872
-        (g{1,1})*  10   128
-        g           0     0
-        _*         13     0
+        (i{0,1})*|(g{1,1})*     10 100000
+        g                        0      0
+        (i{0,1})*|(g{1,1})*|_*  10 100000
+        (g{1,1})*               10    128
     ";
     let before_the_last_round = "
-        (i{0,1})*   0 99872
-        (f)*        0     1
-        (g{1,1})*  13   127
-        g           0     0
+        (i{0,1})*|(f)*|(g{1,1})*  13 100000
+        g                          0      0
     ";
     let nothing_spent = "
-        (a{0,1})*)                5     0
-        (p{0,1})*                 6     0
-        (a{1,0})*                 7     0
-        (a{0,1})****************  8     0
-        (a{0,1})*                 0 99990
-        (b{0,1})*                 0    10
-        (c{0,1})*)                5     0
-        _*                       13     0
+        (a{0,1})*)                5      0
+        (p{0,1})*                 6      0
+        (a{1,0})*                 7      0
+        (a{0,1})****************  8      0
+        (a{0,1})*                 0  99990
+        (b{0,1})*                 0     10
+        (c{0,1})*)                5      0
+        _*                        0      1
     ";
     let (fits, too_long) = (one_run(100_000), one_run(100_001));
     vec![
         spending(
-            "just 100,000 rounds, then drills without a star",
+            "just 100,000 rounds, then operands without a star",
             just_enough,
         ),
         spending("the 100,001st round", one_more),
-        NamedSheet::table("just 100,000 rounds in one drill", &fits, all_at_once),
-        NamedSheet::table("100,001 rounds in one drill", &too_long, one_more_at_once),
-        spending("the first drill spends all", first_spends_all),
+        NamedSheet::table("just 100,000 rounds in one star", &fits, in_one_star),
+        NamedSheet::table(
+            "100,001 rounds in one star",
+            &too_long,
+            one_more_in_one_star,
+        ),
+        spending("the first drill spends all its rounds", first_spends_all),
         spending("10 in the last round left", in_the_last_round),
         spending("13 at the round in which 10 would come", at_the_round_of_10),
         spending("10 after the last round left", after_the_last_round),
@@ -502,20 +534,22 @@ fn purses() -> Vec<NamedSheet> {
 /// 13 and 10 in either operand of a join: the left one comes first.
 fn operands() -> Vec<NamedSheet> {
     let either = "
-        (a{0,1})*     0 99990
-        (c{0,1})*.e  13    10
-        e.(c{0,1})*  10     0
-        (c{0,1})*|e  13     0
-        e|(c{0,1})*  10     0
-        (c{0,1})*&e  13     0
-        e&(c{0,1})*  10     0
-        c             0     0
+        (a{0,1})*|(c{0,1})*.e    13 100000
+        (a{0,1})*|e.(c{0,1})*    10  99990
+        (a{0,1})*|((c{0,1})*|e)  13 100000
+        (a{0,1})*|(e|(c{0,1})*)  10  99990
+        (a{0,1})*|(c{0,1})*&e    13 100000
+        (a{0,1})*|e&(c{0,1})*    10  99990
+        e|(j{0,1})*              10      0
+        c                         0      0
     ";
     let left_spends = "
-        (a{0,1})*     0 99990
-        (b{0,1})*.e  10    10
-        _*           13     0
-        b             0     0
+        (a{0,1})*|(b{0,1})*.e     10 100000
+        (a{0,1})*.(b{0,1})*|e     10 100000
+        (a{0,1})*|(b{0,1})*|_*.e  13 100000
+        (b{0,1})*.e               10     10
+        _*                         0      1
+        b                          0      0
     ";
     vec![
         spending("13 or 10, whichever operand is on the left", either),
@@ -524,34 +558,101 @@ fn operands() -> Vec<NamedSheet> {
 }
 
 /// Stars in stars. The join of `(b{0,1})*` and `(c{0,1})*`, with 10 and 11 rounds, has the run of `c`
-/// and the diagonal, and its star one round.
+/// and the diagonal, and its star one round. The list of `(h{1,1})*`, with 127 rounds, has all lengths
+/// up to 127 and the diagonal: its star has one round too.
 fn nested() -> Vec<NamedSheet> {
     let outer = "
-        (a{0,1})*    0 99990
-        (b{0,1})**  13    10
-        b            0     0
+        (a{0,1})*|(b{0,1})**     13 100000
+        ((a{0,1})*.(b{0,1})*)*   13 100000
+        (i{0,1})*|(h{1,1})**      0 100000
+        _*|(i{0,1})*|(h{1,1})**  13 100000
+        (b{0,1})**                0     11
+        b                         0      0
     ";
     let inner = "
-        (a{0,1})*    0 99990
-        _*           0     1
-        (b{0,1})**  13     9
-        b            0     0
+        (a{0,1})*|_*|(b{0,1})**    13 100000
+        (_*|(a{0,1})*|(b{0,1})*)*  13 100000
+        b                           0      0
     ";
-    let in_between = "
-        (i{0,1})*                                          0 99872
-        (b{0,1})**                                         0    11
-        ((b{0,1})*.(c{0,1})*)*                             0    22
-        ((f)*)*                                            0     2
-        (c{0,1})*|(c{0,1})*                                0    22
-        (((b{0,1})*)*)*{0,3}                               0    12
-        (c{0,1})*.(b{0,1})*.(c{0,1})*.(c{0,1})*.(c{0,1})*  0    54
-        (((c{0,1})*)*)*                                   13     5
-    ";
+    let each = [
+        ("(b{0,1})**", 11),
+        ("((b{0,1})*.(c{0,1})*)*", 22),
+        ("((f)*)*", 2),
+        ("(c{0,1})*|(c{0,1})*", 22),
+        ("(((b{0,1})*)*)*{0,3}", 12),
+        ("(c{0,1})*.(b{0,1})*.(c{0,1})*.(c{0,1})*.(c{0,1})*", 54),
+        ("(((c{0,1})*)*)*", 13),
+    ];
+    let by_itself = each.map(|(drill, rounds)| format!("{drill} 0 {rounds}\n"));
+    // 99,995 rounds before the last operand, which is stopped in its innermost star.
+    let joined = each.map(|(drill, _)| drill).join("|");
+    let in_between = format!("{}(i{{0,1}})*|{joined} 13 100000", by_itself.concat());
     vec![
         spending("stopped in the outer star", outer),
         spending("stopped in the inner star", inner),
-        spending("nested stars, and the last one stopped", in_between),
+        spending("nested stars, and the last one stopped", &in_between),
     ]
+}
+
+/// Each drill has 100,000 rounds, whatever is spent on the lines before it.
+fn rounds_of_its_own() -> Vec<NamedSheet> {
+    let greedy = "(j{0,1})* 13 100000\n";
+    let modest = "(b{0,1})* 0 10\n";
+    let just_enough = "(a{0,1})*.(b{0,1})* 0 100000\n";
+    let by_turns = "
+        (j{0,1})*            13 100000
+        (b{0,1})*             0     10
+        (j{0,1})*.e          13 100000
+        (d{1,1})*            10    127
+        ~(j{0,1})*           13 100000
+        (a{0,1})*             0  99990
+        (a{0,1})*.(c{0,1})*  13 100000
+        _*                    0      1
+    ";
+    let full_lists = "
+        (i{0,1})*|(d{1,1})*  10  99999
+        (a{0,1})*.(b{0,1})*   0 100000
+        (i{0,1})*|(g{1,1})*  10 100000
+        (b{0,1})*.(a{0,1})*   0 100000
+    ";
+    let without_a_star = "
+        (j{0,1})*  13 100000
+        j           0      0
+        a.!a        0      0
+        b&c         0      0
+        e          10      0
+        ~b          0      0
+        -j          0      0
+        _           0      0
+    ";
+    let mut sheets = vec![
+        spending(
+            "a greedy drill and a modest one",
+            &[greedy, modest].concat(),
+        ),
+        spending(
+            "a modest drill and a greedy one",
+            &[modest, greedy].concat(),
+        ),
+        spending("one greedy drill eight times", &greedy.repeat(8)),
+        spending("greedy drills and others by turns", by_turns),
+        spending("just 100,000 rounds eight times", &just_enough.repeat(8)),
+        spending("10 after many rounds, then just 100,000", full_lists),
+        spending("a greedy drill, then drills without a star", without_a_star),
+    ];
+    let long = "a".repeat(256);
+    let refused = [
+        (4, long.as_str()),
+        (5, "(j{0,1})*)"),
+        (6, "(k{0,1})*"),
+        (7, "(j{1,0})*"),
+        (8, "(j{0,1})****************"),
+    ];
+    sheets.extend(refused.map(|(number, drill)| {
+        let name = format!("refused by {number}, then just 100,000 rounds");
+        spending(&name, &format!("{drill} {number} 0\n{just_enough}"))
+    }));
+    sheets
 }
 
 /// Lists of 128 zones, and about as much print as a sheet can come to.
@@ -605,24 +706,24 @@ fn refusals() -> Vec<NamedSheet> {
         a                     0      0"
     );
     let backwards = "
-        a                     0     0
-        (a{0,1})*.(b{0,1})*   0 100000
-        (d{1,1})*            13     0
-        e                    10     0
-        a****************     8     0
-        a{3,2}                7     0
-        k                     6     0
-        a)                    5     0
+        (a{0,1})*.(b{0,1})*             0 100000
+        (a{0,1})*.(b{0,1})*.(d{1,1})*  13 100000
+        (d{1,1})*                      10    127
+        e                              10      0
+        a****************               8      0
+        a{3,2}                          7      0
+        k                               6      0
+        a)                              5      0
     ";
     let in_between = "
-        a           0     0
-        (d{1,1})*  10   127
-        b           0     0
-        +e.e       10     0
-        (b{0,1})*   0    10
-        a{<2,2}     7     0
-        (a{0,1})*  13 99863
-        -b          0     0
+        a           0      0
+        (d{1,1})*  10    127
+        b           0      0
+        +e.e       10      0
+        (b{0,1})*   0     10
+        a{<2,2}     7      0
+        (j{0,1})*  13 100000
+        -b          0      0
     ";
     vec![
         spending("every refusal", &each_once),
@@ -631,17 +732,18 @@ fn refusals() -> Vec<NamedSheet> {
     ]
 }
 
-/// 11 is each drill's own, and spends its rounds: the exported calls are lent less than the program
-/// lends. The star of a run lists that run and the diagonal.
+/// 11 is each drill's own, and comes after 13: the exported calls are lent less than the program lends.
+/// The star of a run lists that run and the diagonal.
 fn short_answers() -> Vec<NamedSheet> {
     let one_zone_fits = "
-        (a{0,1})*  11 99990
-        a           0     0
-        (c{0,1})*  13    10
-        f           0     0
-        _*         13     0
-        a|_        11     0
-        _           0     0
+        (a{0,1})*            11  99990
+        a                     0      0
+        (a{0,1})*.(b{0,1})*  11 100000
+        (a{0,1})*.(c{0,1})*  13 100000
+        f                     0      0
+        _*                    0      1
+        a|_                  11      0
+        _                     0      0
     ";
     let no_zone_fits = "
         a          11 0
@@ -860,12 +962,36 @@ fn missing() -> Vec<NamedSheet> {
 #[cfg(test)]
 mod tests {
     use super::*;
+    use crate::lesson::{drills, wrong, DRILL_ROUNDS};
 
     #[test]
     fn every_sheet_has_its_numbers() {
         for sheet in all() {
             let found = sheet.lesson(proved::linked());
             assert_eq!(found.err(), None, "{}", sheet.name);
+        }
+    }
+
+    /// Other ways to tell the rounds give some drill another number, on these sheets and on those that
+    /// spend their rounds to the last one.
+    #[test]
+    fn rounds_told_by_a_wrong_rule_show_in_the_numbers() {
+        let numbers_by = |rule, sheet: &NamedSheet| -> Vec<u32> {
+            let [recording, text] = [&sheet.recording, &sheet.text].map(Option::as_deref);
+            let drills = drills(text.expect("a text")).expect("drills");
+            let (mut answer, mut work) = ([0; ANSWER_WORDS], [0; WORK_WORDS]);
+            let recording = recording.expect("a recording");
+            let marked = wrong::run(rule, recording, &drills, &mut answer, &mut work);
+            marked.iter().map(|one| one.returned.number).collect()
+        };
+        for (name, rule) in wrong::RULES {
+            for sheets in [rounds_of_its_own(), purses()] {
+                let shows = |sheet: &NamedSheet| {
+                    let right = numbers_by(|_| DRILL_ROUNDS, sheet);
+                    numbers_by(rule, sheet) != right
+                };
+                assert!(sheets.iter().any(shows), "{name}");
+            }
         }
     }
 

@@ -8,7 +8,7 @@
 /// than two counts it returns [`NO_ROOM`] and does nothing.
 pub type Find = fn(&[u8], &[u8], &mut [i32], &mut [i32], &mut [u64]) -> u32;
 
-/// The same for a drill of a sheet. Behind the drill stand the rounds left, before the call and
+/// The same for a drill that is told the rounds left. They stand behind the drill, before the call and
 /// afterwards.
 pub type Within = fn(&[u8], &[u8], &mut u64, &mut [i32], &mut [i32], &mut [u64]) -> u32;
 

@@ -118,10 +118,18 @@ pub struct Tally {
     pub told: Numbers,
     /// Accepted drills that took the last round left.
     pub last_rounds: u64,
-    /// Drills accepted after one of their sheet was refused by 13.
+    /// Drills accepted after one of their chain was refused by 13 and had no round to hand on.
     pub after_13: u64,
     /// Whole lessons.
     pub lessons: Numbers,
+    /// Lessons run again with two lines exchanged whose results differ.
+    pub exchanged: u64,
+    /// Lines of a lesson run again on a sheet of their own.
+    pub lines_alone: u64,
+    /// Drills of a lesson refused by 13.
+    pub greedy: u64,
+    /// Drills of a lesson accepted, with a star, behind one refused by 13.
+    pub behind_greedy: u64,
     /// Finished compositions and rounds whose pairs were counted by trying times.
     counted: u64,
     /// Those of them with pairs of both kinds, with and without a time in common.
@@ -179,6 +187,13 @@ impl Tally {
             (self.last_rounds, "accepted with the last round left"),
             (self.after_13, "accepted after a drill refused 13"),
             (self.lessons.accepted(), "a lesson that was run"),
+            (self.exchanged, "a lesson with two lines exchanged"),
+            (self.lines_alone, "a line of a lesson on a sheet of its own"),
+            (self.greedy, "a drill of a lesson and refused 13"),
+            (
+                self.behind_greedy,
+                "a drill of a lesson accepted with a star behind one refused 13",
+            ),
             (self.mixed, "composed with pairs of both kinds"),
             (self.in_blocks, "composed with several blocks"),
         ];
@@ -218,6 +233,10 @@ impl Tally {
             last_rounds: 1,
             after_13: 1,
             lessons: Numbers([1; Refusal::NUMBERS]),
+            exchanged: 1,
+            lines_alone: 1,
+            greedy: 1,
+            behind_greedy: 1,
             counted: 1,
             mixed: 1,
             in_blocks: 1,
@@ -257,8 +276,8 @@ impl fmt::Display for Tally {
         )?;
         write!(
             out,
-            "{} calls told the rounds left, accepted {} ({} of them with the last round left, {} after \
-             a drill refused 13), {}; ",
+            "{} calls told the rounds left, accepted {} ({} of them with the last round left, {} in a \
+             chain after a drill refused 13), {}; ",
             self.told.total(),
             self.told.accepted(),
             self.last_rounds,
@@ -267,11 +286,17 @@ impl fmt::Display for Tally {
         )?;
         write!(
             out,
-            "{} lessons, run {}, {}; the pairs of {} compositions and rounds counted ({} of them with \
+            "{} lessons, run {} ({} drills refused 13, {} accepted with a star behind one of these; {} \
+             run again with two lines exchanged whose results differ, {} lines run again alone), {}; \
+             the pairs of {} compositions and rounds counted ({} of them with \
              pairs of both kinds, {} of these with several blocks); {} stretches compared, {} cases \
              passed over for time",
             self.lessons.total(),
             self.lessons.accepted(),
+            self.greedy,
+            self.behind_greedy,
+            self.exchanged,
+            self.lines_alone,
             self.lessons.each(Refusal::OF_LESSON),
             self.counted,
             self.mixed,
@@ -291,7 +316,7 @@ mod tests {
     fn a_campaign_misses_what_never_came_up() {
         assert_eq!(Tally::full().missing(), [""; 0]);
         type Take = fn(&mut Tally);
-        let taken: [(Take, &str); 24] = [
+        let taken: [(Take, &str); 28] = [
             (|tally| tally.alone.0[1] = 0, "refused 1"),
             (|tally| tally.alone.0[11] = 0, "refused 11"),
             (
@@ -360,6 +385,22 @@ mod tests {
                 "accepted after a drill refused 13",
             ),
             (|tally| tally.lessons.0[0] = 0, "a lesson that was run"),
+            (
+                |tally| tally.exchanged = 0,
+                "a lesson with two lines exchanged",
+            ),
+            (
+                |tally| tally.lines_alone = 0,
+                "a line of a lesson on a sheet of its own",
+            ),
+            (
+                |tally| tally.greedy = 0,
+                "a drill of a lesson and refused 13",
+            ),
+            (
+                |tally| tally.behind_greedy = 0,
+                "a drill of a lesson accepted with a star behind one refused 13",
+            ),
             (|tally| tally.lessons.0[3] = 0, "a lesson and refused 3"),
             (|tally| tally.lessons.0[12] = 0, "a lesson and refused 12"),
             (|tally| tally.mixed = 0, "composed with pairs of both kinds"),

@@ -24,7 +24,7 @@ use Rattle.calls.proofs.Outcomes.{recordings, drills, call-exists}
 use Rattle.calls.proofs.Rounds.{most-rounds}
 
 -- the causes that both calls begin with, 1 to 9
-abbrev nine : List Outcome
+abbrev pub nine : List Outcome
 nine = recordings ++ (drills ++ (WorkShort ∷ []))
 
 module _ (bytes text : List ℕ) (left answer work : ℕ) where

@@ -16,12 +16,12 @@ use Rattle.recording.specs.Reading.{ReadingAs}
 use Rattle.recording.proofs.Refusals.{reading-exists, refused-length}
 use Rattle.calls.specs.Outcome.{largest}
 use Rattle.calls.proofs.Causes.{first-unique, not-refused}
-use Rattle.results.specs.Results.{Results}
+use Rattle.results.specs.Results.{Results, with-numbers}
 use Rattle.results.proofs.Unique.{results-unique, results-exist}
 use Rattle.finder.proofs.Longer.{Alike}
 use Rattle.sheet.specs.Sheet.{refused}
 use Rattle.lines.proofs.Lined.{lined-unique, lined-or-not}
-use Rattle.lessons.specs.Lessons.{purse, LessonCause, lesson-causes, Demand1Lesson, LessonAs, LessonAs.turned-back, LessonAs.held}
+use Rattle.lessons.specs.Lessons.{LessonCause, lesson-causes, Demand1Lesson, LessonAs, LessonAs.turned-back, LessonAs.held}
 use Rattle.lessons.proofs.Judging.{wrong-length, wrong-head, wrong-change, wrong-sheet, none-wrong, lesson-refusal}
 
 -- Theorem: of a recording, a text and both buffers a lesson is one thing only.
@@ -30,9 +30,9 @@ pub one-lesson : {bytes text p q : List ℕ} {m n : ℕ} {answer work a w b v : 
 one-lesson (turned-back f) (turned-back g) = let e = ap (λ (o : Outcome). returned o .number) (first-unique f g) in (e, ap refused e, refl, refl)
 one-lesson (turned-back f) (held n l r) = absurd (not-refused n f)
 one-lesson (held n l r) (turned-back g) = absurd (not-refused n g)
-one-lesson {bytes} {p = p} {answer = answer} {work = work} {a = a} {w = w} (held {left′ = left} n l r) (held m k s) =
-    let u = results-unique refl refl refl (subst (λ (ds : List (List ℕ)). Results bytes 1 purse answer work ds p left a w) (lined-unique l k) r) s in
-    (refl, u .0, u .1, u .2)
+one-lesson {bytes} {answer = answer} {work = work} {a = a} {w = w} (held {results = rs} n l r) (held m k s) =
+    let u = results-unique refl refl (subst (λ (ds : List (List ℕ)). Results bytes answer work ds rs a w) (lined-unique l k) r) s in
+    (refl, ap (with-numbers 1) (u .0), u .1, u .2)
 
 -- Theorem: there is a lesson of any recording, text and buffers.
 pub some-lesson : (bytes text : List ℕ) (answer work : List ℤ)
@@ -45,7 +45,7 @@ some-lesson bytes text answer work = let a = reading-exists largest bytes in rea
     read WrongHead r = (2, _, _, _, turned-back (wrong-head bytes text r))
     read WrongChange r = (3, _, _, _, turned-back (wrong-change bytes text r))
     read (Recorded size) r =
-        ⊎-elim (λ l. let s = results-exist bytes 1 purse answer work (l .0) in (0, s .0, s .2, s .3, held (none-wrong bytes text r (λ u. u (l .0) (l .1))) (l .1) (s .4)))
+        ⊎-elim (λ l. let s = results-exist bytes answer work (l .0) in (0, _, s .1, s .2, held (none-wrong bytes text r (λ u. u (l .0) (l .1))) (l .1) (s .3)))
         (λ u. (12, _, _, _, turned-back (wrong-sheet bytes text r u))) (lined-or-not text)
 
 -- Its number is that of a refusal exactly where that is the first cause, and 0 exactly where none holds.

@@ -18,8 +18,8 @@ use Rattle.sheet.specs.Sheet.{sheet, refused}
 use Rattle.sheet.proofs.Sheet.{refusal-sheet}
 use Rattle.sheet.proofs.Bounds.{refused-length}
 use Rattle.lines.specs.Taken.{LinesAs}
-use Rattle.results.specs.Results.{ResultsPrinted, AllPrinted}
-use Rattle.lessons.specs.Lessons.{purse, longest-lesson, LessonCause, lesson-causes, LessonAs, turned-back, held}
+use Rattle.results.specs.Results.{with-numbers, ResultsPrinted, AllPrinted}
+use Rattle.lessons.specs.Lessons.{longest-lesson, LessonCause, lesson-causes, LessonAs, turned-back, held}
 use Rattle.lessons.specs.Steps.{sizeOf}
 use Rattle.lessons.proofs.Judging.{lesson-refusal}
 
@@ -48,12 +48,12 @@ module _ {bytes text : List ℕ} {o : Outcome} (first : First lesson-causes (Les
 
 -- all results
 module _ {bytes text store : List ℕ} {answer work answer′ work′ : List ℤ} {out out′ : List ℕ} {w : Written} {n size : ℕ} (lines : LinesAs text store n)
-    (room : longest-lesson ≤ length out) (printed : AllPrinted bytes store n purse answer work answer′ work′ out out′ w) (e : size ≡ sizeOf w) where
-  pub these : (left : ℕ) × ResultsPrinted bytes (lines .drills) purse answer work left answer′ work′ out out′ w
+    (room : longest-lesson ≤ length out) (printed : AllPrinted bytes store n answer work answer′ work′ out out′ w) (e : size ≡ sizeOf w) where
+  pub these : ResultsPrinted bytes (lines .drills) answer work answer′ work′ out out′ w
   these = printed (lines .drills) (lines .count) (lines .stored) (lines .lined .plain)
 
-  pub all-stand : Stands (these .1 .printed) out out′ size
-  all-stand = subst (Stands (these .1 .printed) out out′) (sym e) (stands (these .1 .printed) (these .1 .appends) (omega (arith, these .1 .short, lines .lined .few)))
+  pub all-stand : Stands (with-numbers 1 (these .each)) out out′ size
+  all-stand = subst (Stands (with-numbers 1 (these .each)) out out′) (sym e) (stands (with-numbers 1 (these .each)) (these .appends) (omega (arith, these .short, lines .lined .few)))
 
   pub all : NoCause lesson-causes (LessonCause bytes text) → LessonAs bytes text answer work 0 (take size out′) answer′ work′
-  all ruled = subst (λ (s : List ℕ). LessonAs bytes text answer work 0 s answer′ work′) (sym (all-stand .0)) (held ruled (lines .lined) (these .1 .results))
+  all ruled = subst (λ (s : List ℕ). LessonAs bytes text answer work 0 s answer′ work′) (sym (all-stand .0)) (held ruled (lines .lined) (these .results))

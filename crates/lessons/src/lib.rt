@@ -1,4 +1,4 @@
-// A lesson: the drills of a sheet run in order over one recording, with one purse of rounds, and the text of their results.
+// A lesson: the drills of a sheet run in order over one recording, each with rounds of its own, and the text of their results.
 //
 // specs/Lessons.antt says what is printed and what both lent buffers hold afterwards; the crate `lines` which drills a text has, and `results` what
 // each of them prints.
@@ -15,9 +15,6 @@ ghost use Rattle.io.specs.Counts.{Counts};
 ghost use Rattle.lines.specs.Taken.{store-bytes, CountedAs};
 ghost use Rattle.lessons.specs.Lessons.{longest-lesson, Demand1Lesson};
 ghost use Rattle.lessons.specs.Steps.{JudgedAs, sizeOf};
-
-// The rounds of a sheet, for all its drills together.
-const PURSE: u64 = 100_000;
 
 // Room for all that a lesson prints: eight results, each behind a line with its number.
 pub const LONGEST: usize = 98_320;
@@ -84,7 +81,7 @@ pub fn hold(
             }
         }
         Judged::Drills(n) => {
-            let w = results::results(recording, store, n, PURSE, answer, work, out);
+            let w = results::results(recording, store, n, answer, work, out);
             Lesson {
                 number: 0,
                 size: size_of(w),

@@ -1,4 +1,4 @@
-// The results of drills that are run in order over one recording, with the rounds and the buffers that each leaves to the next, as text.
+// The results of drills that are run in order over one recording, each with rounds of its own and the buffers that the one before it left, as text.
 //
 // specs/Results.antt says what is printed; the crate `lines` how a store holds the drills.
 use text::Written;
@@ -9,7 +9,11 @@ ghost use Rattle.lines.specs.Taken.{store-bytes};
 ghost use Rattle.results.specs.Results.{AllPrinted};
 ghost use Rattle.results.specs.Steps.{ResultPrinted};
 
-// One drill's result behind the text so far: a line with its number, and what `marks` prints of it. It is told the rounds left.
+// The rounds that each drill has for itself.
+const PURSE: u64 = 100_000;
+
+// One drill's result behind the text so far: a line with its number, and the sheet of its call, which is told the rounds left. What it leaves of
+// them is not said.
 fn result(
     recording: &[u8],
     drill: &[u8],
@@ -21,7 +25,7 @@ fn result(
     w: Written,
 ) -> Written
     requires { ⌜ number < 10 ⌝ }
-    ensures { λ r. ⌜ ResultPrinted (now (recording .entry)) (now (drill .entry)) number (now (left .entry)) (now (answer .entry)) (now (work .entry)) (now (left .exit)) (now (answer .exit)) (now (work .exit)) (now (out .entry)) w (now (out .exit)) r ⌝ }
+    ensures { λ r. ⌜ ResultPrinted (now (recording .entry)) (now (drill .entry)) number (now (left .entry)) (now (answer .entry)) (now (work .entry)) (now (answer .exit)) (now (work .exit)) (now (out .entry)) w (now (out .exit)) r ⌝ }
 {
     let outcome = finder::find_within(recording, drill, left, answer, work);
     let numbered = text::decimal(out, w, number);
@@ -30,21 +34,20 @@ fn result(
     sheet::append(out, ended, outcome, outcome::front(answer, told.zones))
 }
 
-// The results of the n drills in the store, from the front of `out`: the first is told so many rounds, each other one those that the one before it
-// leaves, and finds both buffers as it left them. Of a store that holds no n drills nothing is said.
+// The results of the n drills in the store with their numbers, from the front of `out`: each drill has all of its rounds, and finds both buffers as
+// the one before it left them. Of a store that holds no n drills nothing is said.
 pub fn results(
     recording: &[u8],
     store: &[u8],
     n: usize,
-    told: u64,
     answer: &mut [i32],
     work: &mut [i32],
     out: &mut [u8],
 ) -> Written
     requires { ⌜ (n ≤ most-lines) × (store-bytes ≤ length (now store)) ⌝ }
-    ensures { λ r. ⌜ AllPrinted (now (recording .entry)) (now (store .entry)) n told (now (answer .entry)) (now (work .entry)) (now (answer .exit)) (now (work .exit)) (now (out .entry)) (now (out .exit)) r ⌝ }
+    ensures { λ r. ⌜ AllPrinted (now (recording .entry)) (now (store .entry)) n (now (answer .entry)) (now (work .entry)) (now (answer .exit)) (now (work .exit)) (now (out .entry)) (now (out .exit)) r ⌝ }
 {
-    let mut left = told;
+    let mut left = PURSE;
     let mut w = Written::Bytes(0);
     let mut k = 0;
     while k < n {
@@ -59,6 +62,7 @@ pub fn results(
             out,
             w,
         );
+        left = PURSE; // The next drill has its own: nothing is passed on.
         k += 1;
     }
     w

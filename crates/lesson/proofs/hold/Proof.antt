@@ -14,7 +14,7 @@ hold-requires c κs =
 returns : tie.Need-returns
 returns c =
     let the-hold = c .before .before .hold in
-    (λ drive text h s. (_, _, _, longer-lesson (held (omega arith) h) (the-hold .ensures .0 text (c .before .before .before .before .before .before .before .count .ensures text _ s) .defined)), the-hold .ensures .1 .0)
+    (λ drive text h s. record { number = _; answer = _; work = _; lesson = longer-lesson (held (omega arith) h) (the-hold .ensures .0 text (c .before .before .before .before .before .before .before .count .ensures text _ s) .defined) }, the-hold .ensures .1 .0)
 
 pub hold-spec : {M : Type 1} → statement M
 hold-spec =
