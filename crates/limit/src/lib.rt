@@ -2,6 +2,8 @@
 //
 // specs/ says what a time and a limit mean; proofs/Times.antt has the laws of times, proofs/Order.antt those of limits, proofs/Coding.antt
 // those of their words. A `requires` is only of ranges.
+#![tactic(auto)]
+
 ghost use Rattle.std.specs.Prelude.{◌≡◌, ◌≤◌, pos, neg_ℤ, ◌+ℤ◌, ◌-ℤ◌};
 ghost use Rattle.std.specs.Int.Signed.{mag};
 ghost use Rattle.limit.specs.Limit.{at_most, lesser, greater, ◌⊕◌, nought, broken, IsBroken, most, least, less, more, IsMost, IsLeast, IsLess, IsMore, most_ticks, most_sum, code, decode, Small};
