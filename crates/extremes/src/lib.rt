@@ -15,21 +15,21 @@ use words::ZONE_WORDS;
 use zone::{MaybeZone, Zone};
 
 // The earliest or the latest end, in whole ticks: reached by some stretch, or only approached.
-#[derive(Drop)]
+#[derive(Clone, Copy)]
 pub enum Extreme {
     Reached(u32),
     Unreached(u32),
 }
 
 // The earliest and the latest end of some stretches, in this order, or that there is no stretch.
-#[derive(Drop)]
+#[derive(Clone, Copy)]
 pub enum Ends {
     Nothing,
     Between(Extreme, Extreme),
 }
 
 // What is seen of the stretches so far: none, or the greatest limits on their ends and on their negated ends.
-#[derive(Drop)]
+#[derive(Clone, Copy)]
 enum Seen {
     Unseen,
     Limits(Limit, Limit),

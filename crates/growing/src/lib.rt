@@ -16,7 +16,7 @@ use words::ZONE_WORDS;
 use zone::Zone;
 
 // How late the zones of a list start, in words: none has an upper limit on start above the one, or on −start below the other.
-#[derive(Drop)]
+#[derive(Clone, Copy)]
 pub struct Latest {
     pub start: i32,
     pub nstart: i32,
@@ -24,7 +24,7 @@ pub struct Latest {
 
 // A growing list: its zones, 1 where any put was placed, the pairs that were composed for it, and how late its zones start. The mark
 // is no bool, so that no field has a gap behind it: with one the struct is slower to copy.
-#[derive(Drop)]
+#[derive(Clone, Copy)]
 pub struct Growing {
     pub count: usize,
     pub changed: usize,
@@ -32,7 +32,7 @@ pub struct Growing {
     pub latest: Latest,
 }
 
-#[derive(Drop)]
+#[derive(Clone, Copy)]
 pub enum Grown {
     Grew(Growing),
     Overflow,

@@ -19,7 +19,7 @@ pub const HULL_WORDS: usize = 16;
 const LEAST_WORD: i32 = -2_000_002;
 
 // How far some zones reach: the highest word of a limit on start, and of one on −start.
-#[derive(Drop)]
+#[derive(Clone, Copy)]
 struct Reach {
     start: i32,
     nstart: i32,

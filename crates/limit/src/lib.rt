@@ -9,7 +9,7 @@ ghost use Rattle.std.specs.Int.Signed.{mag};
 ghost use Rattle.limit.specs.Limit.{at_most, lesser, greater, ◌⊕◌, nought, broken, IsBroken, most, least, less, more, IsMost, IsLeast, IsLess, IsMore, most_ticks, most_sum, code, decode, Small};
 
 // An upper limit: reached (non-strict) or not reached (strict), with its whole number.
-#[derive(Drop)]
+#[derive(Clone, Copy)]
 pub enum Limit {
     AtMost(i32),
     Below(i32),

@@ -19,7 +19,7 @@ pub const CAPACITY: usize = 128;
 pub const SLOT_WORDS: usize = CAPACITY * ZONE_WORDS;
 
 // What a put comes to: turned away, placed with the new count, or a list that would have 129 zones.
-#[derive(Drop)]
+#[derive(Clone, Copy)]
 pub enum Inserted {
     Away,
     Placed(usize),
@@ -28,7 +28,7 @@ pub enum Inserted {
 
 // What a new zone meets in a list: a zone that holds it; else only zones apart from it; or one inside it, at this place;
 // or any number inside it, the first of them at this place, so that the rest are to be gone through.
-#[derive(Drop)]
+#[derive(Clone, Copy)]
 enum Look {
     Held,
     Apart,

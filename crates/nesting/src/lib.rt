@@ -2,6 +2,8 @@
 // decoded.
 //
 // specs/Nesting.antt says how two zones may lie; proofs/Nestings.antt has the laws that crates above cite.
+#![tactic(auto)]
+
 ghost use Rattle.std.specs.Prelude.{◌≡◌, ◌+◌, ◌≤◌, ◌<◌, length};
 ghost use Rattle.limit.specs.Limit.{at_most, decode};
 ghost use Rattle.zone.specs.Zone.{contains, Contains};
@@ -9,7 +11,7 @@ ghost use Rattle.words.specs.Words.{zone_words, word, zone_at};
 ghost use Rattle.nesting.specs.Nesting.{nesting, Nests};
 
 // How one zone lies to another: inside it (or the same), around it, or neither.
-#[derive(Drop)]
+#[derive(Clone, Copy)]
 pub enum Nesting {
     Inside,
     Around,

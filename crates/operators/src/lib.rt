@@ -17,14 +17,14 @@ use words::ZONE_WORDS;
 use zone::MaybeZone;
 
 // What an operator comes to: a list with its count, or one that would have 129 zones.
-#[derive(Drop)]
+#[derive(Clone, Copy)]
 pub enum Listed {
     Count(usize),
     Overflow,
 }
 
 // What `.` comes to: a list with its count, and the number of pairs composed; or one that would have 129 zones.
-#[derive(Drop)]
+#[derive(Clone, Copy)]
 pub enum Composed {
     Finished { count: usize, pairs: usize },
     Overflow,

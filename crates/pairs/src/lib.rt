@@ -15,7 +15,7 @@ use words::ZONE_WORDS;
 use zone::{MaybeZone, Zone};
 
 // The operations on pairs of zones.
-#[derive(Drop)]
+#[derive(Clone, Copy)]
 pub enum Operation {
     Meet,
     Compose,

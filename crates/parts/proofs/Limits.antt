@@ -10,7 +10,7 @@ use borrow.Author.Tests.{eq-eqb}
 use lib.Dec.{T, T_not, eqb, eqb→eq}
 use Rattle.limit.specs.Time.{Time, origin}
 use Rattle.limit.specs.declared.Limit.{Limit}
-use Rattle.limit.specs.Limit.{Within, ◌≤ᴸ◌, ◌⊕◌, nought, lesser, broken, Small, most_ticks}
+use Rattle.limit.specs.Limit.{◌≤ᴸ◌, ◌⊕◌, nought, lesser, broken, Small, most_ticks}
 use Rattle.limit.proofs.Linear.{test}
 use Rattle.limit.proofs.Order as order
 use Rattle.limit.proofs.Common.{within_widen, within_through, within_self}
@@ -18,7 +18,7 @@ use Rattle.limit.proofs.Breaking.{broken_is, small_broken}
 use Rattle.zone.specs.declared.Zone.{Zone}
 use Rattle.zone.specs.declared.MaybeZone.{MaybeZone}
 use Rattle.zone.specs.declared.MaybeZone.TheVariants.{Zone as zone, Empty as empty}
-use Rattle.zone.specs.Zone.{In, InMaybe, TightMaybe, Proper, Side, on-start, on-nstart, on-end, on-nend, on-length, on-nlength, limit, opposite, Keeps, upper, lower, Ranged}
+use Rattle.zone.specs.Zone.{In, InMaybe, TightMaybe, Proper, Side, on-start, on-nstart, on-end, on-nend, on-length, on-nlength, limit, opposite, Keeps, upper, lower}
 use Rattle.zone.proofs.Sharp.{on, off}
 use Rattle.zone.proofs.Laws.{tighten_members, tighten_tight, tighten_empty, tight_closed, ranged}
 use Rattle.parts.specs.Parts.{side, place, of_limits, also, keeping, part, parts_on, room, Cuttable, Breaks, KeepsTo, RoomAs}

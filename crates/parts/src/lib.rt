@@ -2,6 +2,8 @@
 // limit on a quantity is broken by a limit on the negated quantity, whose word stands beside its own.
 //
 // specs/Parts.antt says which parts there are; proofs/Laws.antt is the page of laws that crates above cite.
+#![tactic(auto)]
+
 ghost use Rattle.std.specs.Prelude.{◌≡◌, cond, ◌<◌, eqb, length};
 ghost use Rattle.limit.specs.Limit.{lesser, decode};
 ghost use Rattle.zone.specs.Zone.{Proper, opposite};

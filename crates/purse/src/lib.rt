@@ -4,7 +4,7 @@
 // the rounds told. A purse is compared with the rounds begun, and is no part of what they come to.
 
 // A list with its count, or that one would have 129 zones, each with the rounds left; or that a round would be begun beyond those told.
-#[derive(Drop)]
+#[derive(Clone, Copy)]
 pub enum Evaluated {
     Listed { count: usize, left: u64 },
     Overflow { left: u64 },

@@ -19,7 +19,7 @@ use purse::Evaluated;
 use zone::Zone;
 
 // A round: it changed nothing, or the new list has so many zones; and how many pairs it composed.
-#[derive(Drop)]
+#[derive(Clone, Copy)]
 enum Round {
     Same { pairs: usize },
     Changed { count: usize, pairs: usize },
@@ -27,7 +27,7 @@ enum Round {
 }
 
 // All rounds of a star: where the last list stands, its count and the rounds left; or why there is none.
-#[derive(Drop)]
+#[derive(Clone, Copy)]
 enum Ended {
     EndedAt { at: usize, count: usize, left: u64 },
     Overflow { left: u64 },

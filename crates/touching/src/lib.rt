@@ -2,6 +2,8 @@
 // decoded.
 //
 // specs/Sharing.antt says it of limits; proofs/Sharing.antt has the laws that crates above cite.
+#![tactic(auto)]
+
 ghost use Rattle.std.specs.Prelude.{◌↔◌, ◌+◌, ◌≤◌, T, length};
 ghost use Rattle.limit.specs.Limit.{most_sum, decode, Small};
 ghost use Rattle.zone.specs.Zone.{Proper, Touches};

@@ -1,6 +1,8 @@
 // Zones in the words of a lent buffer: six words a zone, each the word of a limit. Reading, writing and copying.
 //
 // specs/Words.antt says which zone stands where; proofs/Words.antt has the laws that crates above cite.
+#![tactic(auto)]
+
 ghost use Rattle.std.specs.Prelude.{◌≡◌, [], ◌∷◌, ◌+◌, ◌≤◌, ◌<◌, length};
 ghost use Rattle.limit.specs.Limit.{most_ticks, decode};
 ghost use Rattle.zone.specs.Zone.{Ranged};

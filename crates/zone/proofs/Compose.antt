@@ -5,7 +5,6 @@ use mathlib.Core.List.{[], ◌∷◌}
 use Prim.Native.Nat.{ℕ, ◌+◌, ◌*◌, ◌<◌, ◌≤◌}
 use native.Mathlib.Nat.{mul-le-mul_right, mul-pos}
 use native.Mathlib.Omega.{arith}
-use lib.Dec.{T}
 use Rattle.limit.specs.Time.{Time}
 use Rattle.limit.specs.declared.Limit.{Limit}
 use Rattle.limit.specs.Limit.{◌≤ᴸ◌, ◌⊕◌, nought}

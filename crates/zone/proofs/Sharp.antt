@@ -1,5 +1,4 @@
 -- No limit of a closed zone can be lowered without losing a stretch (`sharp`).
-use mathlib.Core.Path.{◌≡◌, refl}
 use mathlib.Core.Bool.{Bool, true, false}
 use Prim.Native.Nat.{◌+◌, ◌*◌, ◌≤◌}
 use native.Mathlib.Omega.{arith}
@@ -8,7 +7,7 @@ use Rattle.limit.specs.Time.{Time, origin}
 use Rattle.limit.specs.declared.Limit.{Limit}
 use Rattle.limit.specs.Limit.{Within, at_most, ◌≤ᴸ◌, ◌⊕◌, nought, broken}
 use Rattle.zone.specs.Zone.{Zone, In, Side, on-start, on-nstart, on-end, on-nend, on-length, on-nlength, limit, upper, lower, opposite, Keeps, Loses}
-use Rattle.limit.proofs.Linear.{up, dn, un, un_le, lin_le, sum_ud, sum_un, nought_up, nought_dn, nought_un, within_lin}
+use Rattle.limit.proofs.Linear.{up, dn, un, un_le, lin_le, sum_ud, sum_un, nought_up, nought_dn, nought_un}
 use Rattle.limit.proofs.Common.{within_widen, within-≤}
 use Rattle.limit.proofs.Breaking.{broken_lin, broken_is}
 use Rattle.zone.proofs.Closed.{Closed}

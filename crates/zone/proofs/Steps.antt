@@ -15,21 +15,21 @@ is_true {b = true} e = refl
 is_true {b = false} e = sym e
 
 module _ (l m : Limit) (a : MaybeZone) {b : Bool} (e : b ≡ at_most nought (l ⊕ m)) where
-  pub no_room : not b ≡ true → empty ≡ where_room l m a
+  pub no_room : b ≡ false → empty ≡ where_room l m a
   unfolding where_room
-  no_room t = ap (λ (c : Bool). cond c a empty) (sym (is_false t) ∙ e)
+  no_room t = ap (λ (c : Bool). cond c a empty) (sym t ∙ e)
 
-  pub has_room : not b ≡ false → a ≡ where_room l m a
+  pub has_room : b ≡ true → a ≡ where_room l m a
   unfolding where_room
-  has_room t = ap (λ (c : Bool). cond c a empty) (sym (is_true t) ∙ e)
+  has_room t = ap (λ (c : Bool). cond c a empty) (sym t ∙ e)
 
 -- the same by the order
 module _ (l m : Limit) {b : Bool} (e : b ≡ at_most nought (l ⊕ m)) where
-  pub lacks_room : not b ≡ true → ¬ (nought ≤ᴸ l ⊕ m)
-  lacks_room t h = subst T (sym e ∙ is_false t) h.le
+  pub lacks_room : b ≡ false → ¬ (nought ≤ᴸ l ⊕ m)
+  lacks_room t h = subst T (sym e ∙ t) h.le
 
-  pub leaves_room : not b ≡ false → nought ≤ᴸ l ⊕ m
-  leaves_room t = record { le = subst T (sym (is_true t) ∙ e) tt }
+  pub leaves_room : b ≡ true → nought ≤ᴸ l ⊕ m
+  leaves_room t = record { le = subst T (sym t ∙ e) tt }
 
 -- the last step of tightening, from the tighter zone
 unfoldable pub checked : Zone → MaybeZone

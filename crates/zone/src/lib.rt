@@ -4,6 +4,8 @@
 // specs/ says what a zone means; proofs/Laws.antt is the page of laws that crates above cite, beside those of times in
 // `limit`. A `requires` is only of ranges, and every tight zone inside ticks 0..1,000,000 meets it (`ranged` in
 // proofs/Laws.antt).
+#![tactic(auto)]
+
 ghost use Rattle.std.specs.Prelude.{◌≡◌, ◌≤◌};
 ghost use Rattle.limit.specs.Limit.{most_ticks, Small};
 ghost use Rattle.zone.specs.Zone.{tighter, tighten, both, meet, across, compose, contains, run, diagonal, everything, limited, band, Ranged, Tightens, Meets, Composes, Contains, IsRun, IsDiagonal, IsEverything, IsBand};
@@ -11,7 +13,7 @@ ghost use Rattle.zone.specs.Zone.{tighter, tighten, both, meet, across, compose,
 use limit::Limit;
 
 // The six limits of a zone; the n stands for "negated": a lower limit is an upper one on the negated quantity.
-#[derive(Drop)]
+#[derive(Clone, Copy)]
 pub struct Zone {
     pub start: Limit,
     pub nstart: Limit,
@@ -22,7 +24,7 @@ pub struct Zone {
 }
 
 // What an operation answers: a tight zone, or that nothing is left.
-#[derive(Drop)]
+#[derive(Clone, Copy)]
 pub enum MaybeZone {
     Zone(Zone),
     Empty,
