@@ -47,6 +47,7 @@ covers z (head {x = a} {xs = L} e) i = go (contains a z) (subst (λ (b : Zone). 
   where
     go : (b : Bool) → T b → T (b || covered z L)
     go true t = tt
+    go false t = elim t [ ]
 covers z (tail {x = a} {xs = L} m) i = go (contains a z) (covers z m i)
   where
     go : (b : Bool) → T (covered z L) → T (b || covered z L)

@@ -2,6 +2,8 @@
 // copied from slot to slot.
 //
 // specs/ has a definition for each, over plain lists of zones; specs/Slots.antt says how a slot holds a list.
+#![tactic(auto)]
+
 ghost use Rattle.std.specs.Prelude.{◌≡◌, ◌⊎◌, ◌+◌, ◌*◌, ◌≤◌, ◌<◌, length};
 ghost use Rattle.words.specs.Words.{zone_words, zone_at};
 ghost use Rattle.zone.specs.Zone.{contains};
