@@ -7,7 +7,7 @@ use Prim.Native.Nat.{ℕ, zero, suc}
 use Rattle.zone.specs.declared.Zone.{Zone}
 use Rattle.zone.specs.declared.MaybeZone.{MaybeZone}
 use Rattle.zone.specs.declared.MaybeZone.TheVariants.{Zone as zone, Empty as empty}
-use Rattle.list.specs.Insert.{Put, away, placed, overflow, insert, Built, after, insert_each, then}
+use Rattle.list.specs.Insert.{Put, away, placed, overflow, insert, after, insert_each, then}
 use Rattle.list.specs.Members.{Covered}
 use Rattle.growing.specs.Growth.{Alters}
 use Rattle.list.proofs.Coverage.{puts_keep, puts_new, placed_puts, placed_new}

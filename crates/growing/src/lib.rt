@@ -2,6 +2,8 @@
 //
 // specs/Growth.antt says what a list has grown to and whether it has changed. Most zones are put in rising time: one that starts later than
 // all of the list lies apart from them, and goes last at once.
+#![tactic(auto)]
+
 ghost use Rattle.std.specs.Prelude.{[], ◌∷◌};
 ghost use Rattle.zone.specs.declared.MaybeZone.TheVariants.{Zone as zone};
 ghost use Rattle.zone.specs.Zone.{Ranged};

@@ -2,6 +2,8 @@
 // passes over the whole block.
 //
 // specs/Hulls.antt says what a hull is.
+#![tactic(auto)]
+
 ghost use Rattle.std.specs.Prelude.{◌≡◌, ◌+◌, ◌*◌, ◌≤◌, min, length};
 ghost use Rattle.words.specs.Words.{zone_words};
 ghost use Rattle.list.specs.Insert.{capacity};
