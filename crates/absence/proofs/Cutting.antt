@@ -17,7 +17,6 @@ use Rattle.limit.specs.Time.{Time}
 use Rattle.zone.specs.Zone.{In, Proper}
 use Rattle.parts.specs.Parts.{sides, side, keeping, part, parts_on, parts, Cuttable, Breaks, KeepsTo, RoomAs}
 use Rattle.parts.specs.Shares.{ShareNone}
-use Rattle.zone.proofs.Steps.{is_false}
 use Rattle.parts.proofs.Limits.{proper_cuttable, part_listed, none_part}
 use Rattle.parts.proofs.Laws.{parts_proper}
 use Rattle.parts.proofs.Words.{parts_next, parts_end}
@@ -55,8 +54,8 @@ listable_by {z} {w} k c L todo s (zone p) b h = let q = part_listed z w (side k)
 listable_by k c L todo s empty b h = tt
 
 -- without room nothing is left
-pub spent : (z : Zone) (r : Bool) → RoomAs z r → not r ≡ true → (x y : Time) → ¬ In z x y
-spent z r h e = subst (RoomAs z) {x = r} (is_false {b = r} e) h
+pub spent : (z : Zone) (r : Bool) → RoomAs z r → r ≡ false → (x y : Time) → ¬ In z x y
+spent z r h e = subst (RoomAs z) {x = r} e h
 
 -- ---- a list of which no two zones share a stretch, after the first puts
 

@@ -6,8 +6,7 @@ use Prim.Native.Nat.{ℕ, ◌+◌, ◌≤◌, ◌<◌}
 use native.Mathlib.Decide.{dec_le}
 use native.Mathlib.Nat.{mul-le-mul_right}
 use native.Mathlib.Omega.{arith}
-use Rattle.limit.specs.Time.{Time, origin, at_tick, ◌≤ᵀ◌, ◌<ᵀ◌, ◌≈ᵀ◌}
-use Rattle.limit.proofs.Times.{≤_trans}
+use Rattle.limit.specs.Time.{Time, origin, at_tick, ◌≤ᵀ◌, ◌<ᵀ◌}
 use Rattle.limit.proofs.Strict.{not_both, ≤-<-trans, tick-<}
 use Rattle.extremes.specs.Ends.{Extreme, Reached, Unreached, tick_of, Ends, Nothing, Between, At, EndBetween, EndsAs, EndsAs.none, EndsAs.some}
 

@@ -1,14 +1,13 @@
 -- The loop over the zones: what is seen so far, with the zones that are left.
-use mathlib.Core.Path.{◌≡◌, refl, ◌∙◌}
+use mathlib.Core.Path.{◌≡◌, refl}
 use mathlib.Core.List.Memᴰ.{head}
 use mathlib.Core.List.Memᴰ.{tail}
-use mathlib.Core.List.{List, [], ◌∷◌}
-use Prim.Native.Nat.{ℕ, suc, ◌+◌, ◌-◌, ◌*◌, ◌≤◌, ◌<◌}
+use mathlib.Core.List.{List, ◌∷◌}
+use Prim.Native.Nat.{ℕ, ◌+◌, ◌-◌, ◌*◌, ◌≤◌, ◌<◌}
 use native.Mathlib.Nat.{zero-add, sub-zero, sub-eq-zero_of_le}
 use native.Mathlib.Omega.{arith}
 use lib.IntN.{ℤ}
 use Rattle.limit.specs.Time.{at_tick}
-use Rattle.zone.specs.declared.Zone.{Zone}
 use Rattle.zone.specs.Zone.{Proper, compose, diagonal}
 use Rattle.words.specs.Words.{zone_words, zone_at}
 use Rattle.list.specs.Members.{Lies}

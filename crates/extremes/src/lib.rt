@@ -2,6 +2,8 @@
 //
 // specs/Ends.antt says by meaning what the ends of some stretches are, proofs/Meaning.antt that there is one answer. specs/Steps.antt has the answer
 // as it is put together from the zones, proofs/Peaks.antt that it is the one that is asked for.
+#![tactic(auto)]
+
 ghost use Rattle.std.specs.Prelude.{◌≡◌};
 ghost use Rattle.limit.specs.Time.{at_tick};
 ghost use Rattle.limit.specs.Limit.{greater};

@@ -1,6 +1,6 @@
 -- A turn of the loops over right zones: the pair at hand, and what comes of it.
 use mathlib.Core.Path.{◌≡◌, sym, ap, subst, ◌∙◌}
-use mathlib.Core.Bool.{Bool, true, false, not}
+use mathlib.Core.Bool.{Bool, true, false}
 use mathlib.Core.Logic.{◌↔◌}
 use mathlib.Core.List.Memᴰ.{eq_of_singleton}
 use mathlib.Core.List.{List, [], ◌∷◌, ◌++◌, map}
@@ -105,10 +105,8 @@ pub one_more_stands : {ws : List ℤ} {target : ℕ} {g : Growing} → Stands ws
 one_more_stands s = record { slot = s.slot; late = s.late }
 
 -- what the test says
-pub touched : (r : Bool) {P : Type 0} → T r ↔ P → not r ≡ false → P
-touched true f e = f.0 tt
-touched false f e = absurd (subst T e tt)
+pub touched : (r : Bool) {P : Type 0} → T r ↔ P → r ≡ true → P
+touched r f e = f.0 (subst T (sym e) tt)
 
-pub untouched : (r : Bool) {P : Type 0} → T r ↔ P → not r ≡ true → ¬ P
-untouched true f e p = subst T (sym e) tt
-untouched false f e p = f.1 p
+pub untouched : (r : Bool) {P : Type 0} → T r ↔ P → r ≡ false → ¬ P
+untouched r f e p = subst T e (f.1 p)

@@ -2,14 +2,12 @@
 use mathlib.Core.Path.{◌≡◌, sym, ap, subst}
 use mathlib.Core.Logic.{◌⊎◌, inl, inr}
 use mathlib.Core.List.{List, Memᴰ}
-use Prim.Native.Nat.{ℕ, zero, suc, ◌+◌, ◌-◌, ◌*◌, ◌≤◌, ◌<◌}
+use Prim.Native.Nat.{ℕ, zero, suc, ◌+◌, ◌*◌, ◌≤◌, ◌<◌}
 use native.Mathlib.Omega.{arith}
 use lib.IntN.{ℤ}
-use Rattle.zone.specs.declared.Zone.{Zone}
 use Rattle.zone.specs.Zone.{Proper}
-use Rattle.words.specs.Words.{word, zone_at}
+use Rattle.words.specs.Words.{zone_at}
 use Rattle.list.specs.Slots.{list_at, Kept, Disjoint, Sound}
-use Rattle.pairs.specs.Pairs.{beside}
 use Rattle.pairs.specs.Operands.{Supply}
 use Rattle.pairs.specs.Row.{Zones}
 use Rattle.list.proofs.Slots.{list_at_kept, still_source, still_slot}

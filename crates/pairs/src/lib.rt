@@ -2,6 +2,8 @@
 //
 // specs/Pairs.antt says what is put for two whole lists, and which pairs are composed; specs/Row.antt what is put for one zone. The zones that
 // are combined are tight and inside 0..1,000,000, which meet and composition keep.
+#![tactic(auto)]
+
 ghost use Rattle.std.specs.Prelude.{◌≡◌, ◌<◌};
 ghost use Rattle.words.specs.Words.{zone_at};
 ghost use Rattle.zone.specs.Zone.{Proper, Touches, compose};
