@@ -2,6 +2,8 @@
 // limit on the negated end, coded as in an answer.
 //
 // specs/EndWords.antt says which words these are.
+#![tactic(auto)]
+
 ghost use Rattle.std.specs.Prelude.{◌≡◌, [], ◌∷◌, ◌++◌, ◌≤◌, length, drop};
 ghost use Rattle.limit.specs.Limit.{most_ticks, code};
 ghost use Rattle.extremes.specs.Ends.{tick_of};

@@ -8,7 +8,7 @@ use Prim.Native.Nat.{ℕ, ◌+◌, ◌-◌, ◌*◌, ◌<◌, min}
 use native.Mathlib.Omega.{arith}
 use lib.Dec.{T}
 use lib.IntN.{ℤ}
-use lib.ListN.{length, length-map}
+use lib.ListN.{length-map}
 use Rattle.limit.specs.declared.Limit.{Limit}
 use Rattle.limit.specs.Limit.{decode}
 use Rattle.zone.specs.declared.Zone.{Zone}
@@ -27,7 +27,7 @@ use Rattle.pairs.specs.Counted.{Counted}
 use Rattle.pairs.specs.declared.Operation.{Operation}
 use Rattle.pairs.specs.declared.Operation.TheVariants.{Meet, Compose}
 use Rattle.pairs.specs.Pairs.{apply, beside, Composed}
-use Rattle.pairs.specs.Row.{applied, Zones, Pairing}
+use Rattle.pairs.specs.Row.{applied, Pairing}
 use Rattle.products.specs.Steps.{ReachesAs}
 use Rattle.pairs.proofs.Zones.{still_zones, read_one}
 use Rattle.products.proofs.Hulls.{block_split, zones_block}

@@ -2,6 +2,8 @@
 //
 // The crate `pairs` says what is put and which pairs are composed. Most pairs of two long lists have nothing in common: a block of right
 // zones is passed over by its hull, and a pair by four words.
+#![tactic(auto)]
+
 ghost use Rattle.std.specs.Prelude.{◌≡◌, ◌+◌, ◌*◌, ◌≤◌, ◌<◌, length};
 ghost use Rattle.words.specs.Words.{zone_words, word, zone_at};
 ghost use Rattle.zone.specs.Zone.{Proper};

@@ -1,5 +1,6 @@
 -- `latest_word`, case by case: the tick is small enough for the word of its limit.
-use Rattle.std.proofs.Common.{ap, ◌∙◌}
+use Rattle.std.proofs.Common.{ap, ◌∙◌, rules}
+use Rattle.signed.proofs.Machine.{back}
 use Rattle.end_words.proofs.Words.{plain_small}
 use Rattle.limit.specs.Limit.{code}
 use Rattle.limit.specs.declared.Limit.{Limit}
@@ -18,7 +19,7 @@ pub word-requires-in-Unreached : goal.word-requires-in-Unreached
 word-requires-in-Unreached c = rw c.less.ensures.value (plain_small _ (rw c.in-Unreached.is at c.requires))
 
 pub returns-in-Reached : goal.returns-in-Reached
-returns-in-Reached c = rw c.in-Reached.is (c.word.ensures ∙ ap (λ (l : Limit). code l) c.most.ensures.value)
+returns-in-Reached c = rw c.in-Reached.is (back (search rules) ∙ c.word.ensures ∙ ap (λ (l : Limit). code l) c.most.ensures.value)
 
 pub returns-in-Unreached : goal.returns-in-Unreached
-returns-in-Unreached c = rw c.in-Unreached.is (c.word-in-Unreached.ensures ∙ ap (λ (l : Limit). code l) c.less.ensures.value)
+returns-in-Unreached c = rw c.in-Unreached.is (back (search rules) ∙ c.word-in-Unreached.ensures ∙ ap (λ (l : Limit). code l) c.less.ensures.value)
