@@ -2,6 +2,8 @@
 //
 // specs/ has a definition of the same name for each rule, over plain lists of zones. The zones that are combined are tight and
 // inside 0..1,000,000, which every rule keeps.
+#![tactic(auto)]
+
 ghost use Rattle.std.specs.Prelude.{[], ◌∷◌, map, ◌+◌, ◌≤◌, length};
 ghost use Rattle.zone.specs.declared.MaybeZone.TheVariants.{Zone as zone};
 ghost use Rattle.words.specs.Words.{zone_words, zone_at};
