@@ -79,9 +79,9 @@ module _ {from to : ℕ} {inner : List Zone} (proper : AllProper from to inner) 
   -- where v lies inside x, what v leads to lies inside what x leads to
   leads_within : {q : Zone} {i j r : ℕ} {x v : Zone} → Composed inner i x → Composed inner j v → T (contains x v) → Leads inner q r v → (n : ℕ) × (t : Zone) × Composed inner n t × T (contains t q) × (n ≡ i + r)
   leads_within {i = i} {x = x} o g h (done e) = (i, x, o, subst (λ (k : Zone). T (contains x k)) e h, omega arith)
-  leads_within o g h (next m e t) =
+  leads_within {i = i} o g h (next m e t) =
       let k = compose_mono (tight g) (tight o) (inner_tight m) h e in
-      let b = leads_within (extend o m k.1) (extend g m e) k.2 t in
+      let b = leads_within {i = suc i} (extend o m k.1) (extend g m e) k.2 t in
       (b.0, b.1, b.2, b.3, let f = b.4 in omega arith)
 
   -- q, a composition of m inner zones, lies inside none of fewer

@@ -92,7 +92,7 @@ Ends inner k (overflow b f) = (n : ℕ) × (F : List Zone) × After inner n F ×
 
 ends : {inner : List Zone} {k : ℕ} {L : List Zone} {v : Value} → After inner k L → Rounds inner L v → Ends inner k v
 ends {k = k} a (last e) = (k, a, omega arith, e)
-ends {inner} {k} a (more {v = v} e n t) = go v (ends (turn a e n) t)
+ends {inner} {k} a (more {v = v} e n t) = go v (ends {k = suc k} (turn a e n) t)
   where
     go : (v : Value) → Ends inner (suc k) v → Ends inner k (with_rounds 1 v)
     go (value F r) h = (h.0, h.1, let q = h.2 in omega arith, h.3)

@@ -1,6 +1,8 @@
 // The rounds of a star. They end, by the bound n + d on their number (proofs/Bound.antt), or with the rounds told.
 //
 // specs/Star.antt says what the rounds come to, over plain lists of zones.
+#![tactic(auto)]
+
 ghost use Rattle.std.specs.Prelude.{◌≡◌, ◌⊎◌, [], ◌∷◌, ◌≤◌};
 ghost use Rattle.zone.specs.Zone.{diagonal};
 ghost use Rattle.zone.specs.declared.MaybeZone.TheVariants.{Zone as zone};

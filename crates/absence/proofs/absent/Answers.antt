@@ -1,0 +1,21 @@
+use Rattle.std.proofs.Common.{arith}
+use Rattle.absence.proofs.Alternating.{everything_ready, everything_same}
+use Rattle.zone.proofs.Ranges.{ranged_everything}
+use Rattle.absence.proofs.absent.Goals as goal
+
+pub overflow_add-base : goal.overflow_add-base
+overflow_add-base c = omega (arith, c.requires.1)
+
+pub write_zone-requires : goal.write_zone-requires
+write_zone-requires c =
+    rw c.everything.ensures.value (omega (arith, c.requires.1), ranged_everything c.args.from c.args.to (omega (arith, c.requires.2, c.requires.3)) c.requires.3)
+
+pub without_each-requires : goal.without_each-requires
+without_each-requires c =
+    everything_ready c.requires.0 c.requires.1 c.args.from c.args.to (rw c.everything.ensures.value at c.write_zone.ensures) c.requires.2 c.requires.3
+
+pub returns : goal.returns
+returns c = record {
+      built = everything_same c.requires.0 c.requires.1 c.args.from c.args.to (rw c.everything.ensures.value at c.write_zone.ensures) c.without_each.result c.without_each.ensures.built;
+      kept = everything_same c.requires.0 c.requires.1 c.args.from c.args.to (rw c.everything.ensures.value at c.write_zone.ensures) c.without_each.result c.without_each.ensures.kept;
+    }

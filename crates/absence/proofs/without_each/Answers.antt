@@ -1,0 +1,45 @@
+use Rattle.std.proofs.Common.{arith, rules}
+use Rattle.absence.proofs.Alternating.{alternating_start, next-ready, alternating-kept, alternating-overflow, alternating-on, bring_ready, alternating_end}
+use Rattle.absence.proofs.without_each.Goals as goal
+
+pub overflow_add-first : goal.overflow_add-first
+overflow_add-first c = omega (arith, c.requires.room)
+
+pub overflow_add-there : goal.overflow_add-there
+overflow_add-there c = omega (arith, c.requires.room)
+
+pub loop-i-init : goal.loop-i-init
+loop-i-init c = alternating_start c.requires
+
+pub overflow_mul-i : goal.overflow_mul-i
+overflow_mul-i c = omega (arith, c.requires.room, c.requires.list.few, c.loop-i-test.true)
+
+pub overflow_add-base : goal.overflow_add-base
+overflow_add-base c = omega (arith, c.requires.room, c.requires.list.few, c.loop-i-test.true)
+
+pub without-requires : goal.without-requires
+without-requires c = next-ready c.requires c.loop-i.invariant c.loop-i-test.true
+
+pub shape_of-words-in_default : goal.shape_of-words-in_default
+shape_of-words-in_default c =
+    (alternating-kept c.requires c.loop-i.invariant c.loop-i-test.true c.without.ensures.kept).same_length
+
+pub returns-in_default : goal.returns-in_default
+returns-in_default c = record {
+      built = alternating-overflow c.requires c.loop-i.invariant c.loop-i-test.true c.without.ensures.kept (rw c.in_default.is at c.without.ensures.built);
+      kept = alternating-kept c.requires c.loop-i.invariant c.loop-i-test.true c.without.ensures.kept;
+    }
+
+pub loop-i-preserved : goal.loop-i-preserved
+loop-i-preserved c =
+    alternating-on c.requires c.loop-i.invariant c.loop-i-test.true c.without.ensures.kept (rw c.in-Count.is at c.without.ensures.built)
+
+pub bring-requires : goal.bring-requires
+bring-requires c = bring_ready c.requires c.loop-i.invariant
+
+pub shape_of-words : goal.shape_of-words
+shape_of-words c =
+    (alternating_end c.requires c.loop-i.invariant (search rules) c.bring.ensures.list c.bring.ensures.kept).1.same_length
+
+pub returns : goal.returns
+returns c = let both = alternating_end c.requires c.loop-i.invariant (search rules) c.bring.ensures.list c.bring.ensures.kept in record { built = both.0; kept = both.1 }

@@ -1,0 +1,30 @@
+use Rattle.std.proofs.Common.{sym, subst, arith}
+use Rattle.growing.proofs.Going.{standing_stands}
+use Rattle.list.proofs.Slots.{kept_trans}
+use Rattle.list.specs.Slots.{Sound}
+use Rattle.star.proofs.Closings.{put_overflow, put_listing}
+use Rattle.zone.proofs.Laws.{ranged, ranged_more, proper_diagonal}
+use Rattle.zone.specs.Zone.{diagonal}
+use Rattle.star.proofs.close.Goals as goal
+
+pub bring-requires : goal.bring-requires
+bring-requires c = let p = c.requires in (p.0.few, p.0.room, p.1, p.2)
+
+pub grow-requires : goal.grow-requires
+grow-requires c =
+    let p = c.requires in (
+      standing_stands c.standing.ensures.begins c.standing.ensures.late (record { few = p.0.few; room = omega (arith, p.1, c.bring.ensures.kept.same_length) }) (subst Sound (sym c.bring.ensures.list) p.0.sound),
+      rw c.diagonal.ensures.value (ranged_more p.4 (ranged (proper_diagonal _ _ p.3))),
+    )
+
+pub returns-in_default : goal.returns-in_default
+returns-in_default c = record {
+  built = put_overflow (diagonal c.args.from c.args.to) _ _ _ c.standing.ensures.begins c.bring.ensures.list (rw (c.diagonal.ensures.value, c.in_default.is) at c.grow.ensures.grown);
+  kept = kept_trans c.bring.ensures.kept c.grow.ensures.kept;
+}
+
+pub returns : goal.returns
+returns c = record {
+  built = put_listing (diagonal c.args.from c.args.to) _ _ _ c.standing.ensures.begins c.bring.ensures.list (rw (c.diagonal.ensures.value, c.in-Grew.is) at c.grow.ensures.grown);
+  kept = kept_trans c.bring.ensures.kept c.grow.ensures.kept;
+}
