@@ -2,6 +2,8 @@
 // operand a new list is made, of the parts of the listed zones outside it.
 //
 // specs/Absence.antt has the rule over plain lists of zones; proofs/Theorems.antt is the page of laws that crates above cite.
+#![tactic(auto)]
+
 ghost use Rattle.std.specs.Prelude.{[], ◌∷◌, map, ◌+◌, ◌*◌, ◌≤◌, length};
 ghost use Rattle.zone.specs.declared.MaybeZone.TheVariants.{Zone as zone};
 ghost use Rattle.zone.specs.Zone.{Proper};

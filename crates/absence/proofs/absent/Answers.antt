@@ -15,7 +15,6 @@ without_each-requires c =
     everything_ready c.requires.0 c.requires.1 c.args.from c.args.to (rw c.everything.ensures.value at c.write_zone.ensures) c.requires.2 c.requires.3
 
 pub returns : goal.returns
-returns c = record {
-      built = everything_same c.requires.0 c.requires.1 c.args.from c.args.to (rw c.everything.ensures.value at c.write_zone.ensures) c.without_each.result c.without_each.ensures.built;
-      kept = everything_same c.requires.0 c.requires.1 c.args.from c.args.to (rw c.everything.ensures.value at c.write_zone.ensures) c.without_each.result c.without_each.ensures.kept;
-    }
+returns c =
+    let both = everything_same c.requires.0 c.requires.1 c.args.from c.args.to (rw c.everything.ensures.value at c.write_zone.ensures) c.without_each.result (c.without_each.ensures.built, c.without_each.ensures.kept) in
+    record { built = both.0; kept = both.1 }

@@ -46,6 +46,6 @@ shape_of-words c = c.loop-i.invariant.going.frame.same_length
 
 pub returns : goal.returns
 returns c = record {
-      grown = replacing_end c.loop-i.invariant (search rules);
-      kept = c.loop-i.invariant.going.frame;
-    }
+  grown = replacing_end c.loop-i.invariant (search rules);
+  kept = c.loop-i.invariant.going.frame;
+}

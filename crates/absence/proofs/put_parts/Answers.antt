@@ -73,6 +73,6 @@ shape_of-words c = c.loop-k.invariant.0.going.frame.same_length
 
 pub returns : goal.returns
 returns c = record {
-      grown = cutting_end c.loop-k.invariant.0 (search rules);
-      kept = c.loop-k.invariant.0.going.frame;
-    }
+  grown = cutting_end c.loop-k.invariant.0 (search rules);
+  kept = c.loop-k.invariant.0.going.frame;
+}

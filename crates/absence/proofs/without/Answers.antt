@@ -34,9 +34,9 @@ shape_of-words-in_default c = search rules
 pub returns-in_default : goal.returns-in_default
 unfolding without
 returns-in_default c = record {
-      built = begun_overflow _ _ _ c.nothing.ensures (rw (held (zone_at c.args.words.now c.args.cut) _ c.copy_zone.ensures (omega arith), c.in_default.is) at c.put_each.ensures.grown);
-      kept = c.put_each.ensures.kept;
-    }
+  built = begun_overflow _ _ _ c.nothing.ensures (rw (held (zone_at c.args.words.now c.args.cut) _ c.copy_zone.ensures (omega arith), c.in_default.is) at c.put_each.ensures.grown);
+  kept = c.put_each.ensures.kept;
+}
 
 pub shape_of-words : goal.shape_of-words
 shape_of-words c = search rules
@@ -44,6 +44,6 @@ shape_of-words c = search rules
 pub returns : goal.returns
 unfolding without
 returns c = record {
-      built = begun_listing _ _ _ c.nothing.ensures (rw (held (zone_at c.args.words.now c.args.cut) _ c.copy_zone.ensures (omega arith), c.in-Grew.is) at c.put_each.ensures.grown);
-      kept = c.put_each.ensures.kept;
-    }
+  built = begun_listing _ _ _ c.nothing.ensures (rw (held (zone_at c.args.words.now c.args.cut) _ c.copy_zone.ensures (omega arith), c.in-Grew.is) at c.put_each.ensures.grown);
+  kept = c.put_each.ensures.kept;
+}

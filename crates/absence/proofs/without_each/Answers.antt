@@ -26,9 +26,9 @@ shape_of-words-in_default c =
 
 pub returns-in_default : goal.returns-in_default
 returns-in_default c = record {
-      built = alternating-overflow c.requires c.loop-i.invariant c.loop-i-test.true c.without.ensures.kept (rw c.in_default.is at c.without.ensures.built);
-      kept = alternating-kept c.requires c.loop-i.invariant c.loop-i-test.true c.without.ensures.kept;
-    }
+  built = alternating-overflow c.requires c.loop-i.invariant c.loop-i-test.true c.without.ensures.kept (rw c.in_default.is at c.without.ensures.built);
+  kept = alternating-kept c.requires c.loop-i.invariant c.loop-i-test.true c.without.ensures.kept;
+}
 
 pub loop-i-preserved : goal.loop-i-preserved
 loop-i-preserved c =
