@@ -1,4 +1,6 @@
 // Runs of ticks in which a channel of a recording has a level: `next_run` gives them one after the other.
+#![tactic(auto)]
+
 ghost use Rattle.std.specs.Prelude.{◌≡◌, ◌||◌, ◌+◌, ◌*◌, ◌≤◌, ◌<◌, min, max, leb, ltb, length};
 ghost use Rattle.recording.specs.Reading.{ticks as ticksOf, IsRecording};
 ghost use Rattle.recording.specs.Changes.{begins as beginsAt};

@@ -1,9 +1,10 @@
 -- The loop keeps `Seeking`; the changes not yet looked at become fewer.
-use Rattle.std.proofs.Common.{◌≡◌, ⊎_elim, Bool, false, ◌||◌, ℕ, ◌-◌, ◌<◌, arith, leb, ltb}
+use Rattle.std.proofs.Common.{◌≡◌, Bool, false, ◌||◌, ℕ, ◌<◌, arith, leb, ltb}
 use Rattle.recording.proofs.Refusals.{above_is, read_count, read_room}
 use Rattle.recording.specs.Changes.{begins}
 use Rattle.runs.proofs.Scan.{seek_start, seek_on, seek_found, seek_end}
 use Rattle.runs.proofs.seek.Goals as goal
+use Rattle.runs.proofs.seek.Goals.{then-leaves_at-wanted+else-reaches, else-leaves_at-wanted}
 
 -- a change that does not reach has no tick
 unreached : {t : Bool} (x to m n : ℕ) → t ≡ (leb to x || ltb m n) → t ≡ false → m < n → ⊥
@@ -38,8 +39,10 @@ loop-i-smaller c = omega (arith, c.loop-i-test.true, read_count c.requires.0)
 pub loop-i-preserved : goal.loop-i-preserved
 loop-i-preserved c =
     seek_on c.requires.0 c.loop-i.invariant
-    (λ h. ⊎_elim (λ w. absurd (unreached (begins c.args.bytes.now c.loop-i.i) c.args.to _ _ w.1.ensures w.2.left h))
-    (λ w. rw (← c.leaves_at.ensures) w.left) c.if-leaves_at-wanted.branch)
+    (λ h. elim c.if-leaves_at-wanted.branch [
+      | then-leaves_at-wanted+else-reaches w ↦ absurd (unreached (begins c.args.bytes.now c.loop-i.i) c.args.to _ _ w.reaches.ensures w.if-reaches.false h)
+      | else-leaves_at-wanted w ↦ rw (← c.leaves_at.ensures) w.if-leaves_at-wanted.false
+    ])
 
 pub returns : goal.returns
 returns c =
