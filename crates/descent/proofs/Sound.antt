@@ -11,7 +11,6 @@ use Rattle.expression.specs.declared.Sign.TheVariants.{High, Low, Rise, Fall}
 use Rattle.expression.specs.declared.Join.{Join}
 use Rattle.expression.specs.declared.Join.TheVariants.{Union, Intersection, Concatenation}
 use Rattle.expression.specs.declared.Unary.{Unary}
-use Rattle.expression.specs.declared.Unary.TheVariants.{Absence}
 use Rattle.expression.specs.Expression.{Expression, literal, join, unary}
 use Rattle.expression.specs.Grammar.{
   Level,

@@ -1,3 +1,5 @@
+#![tactic(auto)]
+
 // Recursive descent through the text of a drill, as a function of the text, and that it is the grammar. This crate has no code of
 // its own.
 //

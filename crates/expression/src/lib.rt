@@ -3,34 +3,36 @@
 //
 // specs/Expression.antt has the expressions, specs/Grammar.antt the texts that document 01 takes for them, specs/Refusal.antt
 // the causes 4 to 8. Which text is which expression is found in `parser`. Nothing is known here of recordings.
+#![tactic(auto)]
+
 ghost use Rattle.std.specs.Prelude.{◌≡◌, true, ◌↔◌, ◌+◌, ◌*◌, ◌≤◌, length, get_or};
 ghost use Rattle.expression.specs.declared.Upper.TheVariants.{UpTo};
 ghost use Rattle.expression.specs.Refusal.{figure, Opened, WrongUpper, Wrong};
 ghost use Rattle.expression.specs.Stored.{band_node, decoded, node_at, Placed};
 
 // An end of a range of lengths, with its number of ticks: one that belongs to the range, or one that does not.
-#[derive(Drop)]
+#[derive(Clone, Copy)]
 pub enum End {
     Closed(u32),
     Open(u32),
 }
 
 // The upper end of a range of lengths.
-#[derive(Drop)]
+#[derive(Clone, Copy)]
 pub enum Upper {
     Endless,
     UpTo(End),
 }
 
 // A range of lengths.
-#[derive(Drop)]
+#[derive(Clone, Copy)]
 pub struct Range {
     pub lo: End,
     pub hi: Upper,
 }
 
 // What a letter asks of its channel: a level, or the moment when the level goes over.
-#[derive(Drop)]
+#[derive(Clone, Copy)]
 pub enum Sign {
     High,
     Low,
@@ -39,7 +41,7 @@ pub enum Sign {
 }
 
 // The joins: `|`, `&` and `.`.
-#[derive(Drop)]
+#[derive(Clone, Copy)]
 pub enum Join {
     Union,
     Intersection,
@@ -47,7 +49,7 @@ pub enum Join {
 }
 
 // The operators with one operand: `*`, `{lo,hi}` and `~`.
-#[derive(Drop)]
+#[derive(Clone, Copy)]
 pub enum Unary {
     Star,
     Band(Range),
@@ -55,7 +57,7 @@ pub enum Unary {
 }
 
 // A node, with the numbers of the nodes of its operands. A channel is 0 for `a`.
-#[derive(Drop)]
+#[derive(Clone, Copy)]
 pub enum Node {
     Epsilon,
     Literal(Sign, u32),
@@ -118,7 +120,7 @@ pub fn is_wrong(range: Range) -> bool
 }
 
 // The words of a node: its operation, and up to three numbers.
-#[derive(Drop)]
+#[derive(Clone, Copy)]
 struct Words(u32, u32, u32, u32);
 
 fn widened(x: u32) -> usize

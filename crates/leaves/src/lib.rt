@@ -2,6 +2,8 @@
 //
 // specs/Reading.antt says what the reader of a level of the grammar comes to, which holds of all levels alike. Those that call each
 // other are found in `parser`.
+#![tactic(auto)]
+
 ghost use Rattle.std.specs.Prelude.{◌≡◌, false, drop};
 ghost use Rattle.tokens.specs.Tokens.{starts};
 ghost use Rattle.descent.specs.Descent.{single};

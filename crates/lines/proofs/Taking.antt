@@ -1,6 +1,6 @@
 -- The state and the store sum up the text so far, before its first byte and after each.
 use mathlib.Core.Path.{◌≡◌, refl, sym, ap}
-use mathlib.Core.Bool.{Bool, true, false, true≢false, ◌||◌, or_true}
+use mathlib.Core.Bool.{Bool, true, false, true≢false, ◌||◌, or-true}
 use mathlib.Core.Logic.{◌↔◌, ⊎_elim}
 use mathlib.Core.List.Memᴰ.{append_cases}
 use mathlib.Core.List.Memᴰ.{append_left}
@@ -67,7 +67,7 @@ module _ {text store : List ℕ} {s : Taken} (size : store_bytes ≤ length stor
       now : Memᴰ [] (h.rest ∷ []) → (s.empty || eqb s.begun 0) ≡ true
       now m =
           let e : length h.rest ≡ 0 = sym (ap length (eq_of_singleton m)) in
-          rw (eq-eqb s.begun 0 (omega arith)) (or_true s.empty)
+          rw (eq-eqb s.begun 0 (omega arith)) (or-true s.empty)
 
   -- a newline ends the line that is coming in
   pub sums_newline : {n : ℕ} {t : Bool} → n ≡ min (most_lines + 1) (s.lines + 1) → t ≡ (s.empty || eqb s.begun 0) → Sums (terminated text) (after newline) (record { lines = n; begun = 0; empty = t })

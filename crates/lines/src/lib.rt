@@ -3,6 +3,8 @@
 // lends, each in a place of its own.
 //
 // specs/Lines.antt says what a sheet is, and specs/Taken.antt what is known of a text while it comes in.
+#![tactic(auto)]
+
 ghost use Rattle.std.specs.Prelude.{◌≡◌, List, [], ◌∷◌, ◌++◌, ℕ, ◌+◌, ◌≤◌, ◌<◌, min, length, take, drop};
 ghost use Rattle.lines.specs.Lines.{most_lines, terminated, Unbroken};
 ghost use Rattle.lines.specs.Taken.{place_bytes, store_bytes, Held, Sums, CountedAs};
@@ -17,7 +19,7 @@ pub const STORE_BYTES: usize = MOST_LINES * PLACE;
 
 // What is known of a text beside the store: how many lines a newline ended, counted up to 9; how many bytes stand
 // behind the last newline, counted up to 256; and whether one of the lines is empty.
-#[derive(Drop)]
+#[derive(Clone, Copy)]
 pub struct Taken {
     pub lines: usize,
     pub begun: usize,

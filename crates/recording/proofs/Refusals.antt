@@ -8,7 +8,7 @@ use native.Mathlib.Decide.{ℕ_discrete}
 use native.Mathlib.Nat.{div-eq_of_lt, le-div_iff_mul-le, one-mul}
 use native.Mathlib.Numerals.{add-one}
 use native.Mathlib.Omega.{arith}
-use borrow.Author.Tests.{ltb-true, ltb-false, lt-ltb, leb-true, leb-false, le-leb, lt-leb, eqb-true, eq-eqb, ne_eqb, not_true, not_false}
+use borrow.Author.Tests.{ltb-true, ltb-false, lt-ltb, leb-true, leb-false, le-leb, lt-leb, eqb-true, eq-eqb, ne_eqb, not-true, not-false}
 use lib.Dec.{leb, ltb, eqb}
 use lib.Pow.{shl_exact}
 use lib.ListN.{length}
@@ -21,10 +21,10 @@ use Rattle.recording.proofs.Rounding.{tick_range}
 
 -- a flag of the code, negated, and the test that it is
 pub passed : {a b : Bool} → a ≡ b → not a ≡ false → b ≡ true
-passed {a} e h = sym e ∙ not_false a h
+passed {a} e h = sym e ∙ not-false a h
 
 pub failed : {a b : Bool} → a ≡ b → not a ≡ true → b ≡ false
-failed {a} e h = sym e ∙ not_true a h
+failed {a} e h = sym e ∙ not-true a h
 
 -- a number is below m exactly where m does not divide it even once
 pub within : (n m : ℕ) → 0 < m → ltb n m ≡ eqb (n / m) 0

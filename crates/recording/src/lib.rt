@@ -1,6 +1,7 @@
 // Switch recordings. `read` judges any bytes: they are turned back, by the table's number, or they are a recording of so many
 // ticks, channels and changes. Of a recording that was read, `begins` and `levels_of` tell where a change holds from, and what
 // it sets.
+#![tactic(auto)]
 
 ghost use Rattle.std.specs.Prelude.{◌≡◌, ◌&&◌, ◌||◌, ◌+◌, ◌-◌, ◌*◌, ◌^◌, ◌≤◌, ◌<◌, leb, ltb, length};
 ghost use Rattle.recording.specs.Reading.{even_of, tick as tick_of, byte_at, le16 as le16At, le32 as le32At, has_mark, duration as durationOf, channels as channelsOf, time as timeOf, levels as levelsOf, IsRecording, ReadingAs};
@@ -8,7 +9,7 @@ ghost use Rattle.recording.specs.Changes.{begins as beginsAt};
 ghost use Rattle.recording.specs.Tests.{sized as sizedBy, headed as headedBy, changed as changedBy, all_changed};
 
 // The dimensions of a recording: its length in ticks, its channels, and its changes, which are the records 1 to `changes`.
-#[derive(Drop)]
+#[derive(Clone, Copy)]
 pub struct Dimensions {
     pub ticks: u32,
     pub channels: u8,
@@ -16,7 +17,7 @@ pub struct Dimensions {
 }
 
 // What reading answers.
-#[derive(Drop)]
+#[derive(Clone, Copy)]
 pub enum Reading {
     WrongLength,
     WrongHead,

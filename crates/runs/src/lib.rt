@@ -1,4 +1,6 @@
 // Runs of ticks in which a channel of a recording has a level: `next_run` gives them one after the other.
+#![tactic(auto)]
+
 ghost use Rattle.std.specs.Prelude.{◌≡◌, ◌||◌, ◌+◌, ◌*◌, ◌≤◌, ◌<◌, min, max, leb, ltb, length};
 ghost use Rattle.recording.specs.Reading.{ticks as ticksOf, IsRecording};
 ghost use Rattle.recording.specs.Changes.{begins as beginsAt};
@@ -9,14 +11,14 @@ ghost use Rattle.runs.specs.Search.{same_level, leaves_at, Sought};
 use recording::Dimensions;
 
 // A level of a channel.
-#[derive(Drop)]
+#[derive(Clone, Copy)]
 pub enum Level {
     High,
     Low,
 }
 
 // A run of ticks, from `start` to before `end`.
-#[derive(Drop)]
+#[derive(Clone, Copy)]
 pub struct Run {
     pub start: u32,
     pub end: u32,
@@ -24,13 +26,13 @@ pub struct Run {
 
 // A place among the changes. Change 0 is the time before the first one. Callers start there and pass on what they get:
 // which change a cursor names is free, and only its tick is promised.
-#[derive(Drop)]
+#[derive(Clone, Copy)]
 pub struct Cursor {
     pub change: usize,
 }
 
 // The next run, and the cursor behind it.
-#[derive(Drop)]
+#[derive(Clone, Copy)]
 pub enum Next {
     Found(Run, Cursor),
     None,

@@ -1,5 +1,7 @@
 // Texts as bytes in a lent buffer. Each function puts a piece behind the text so far and takes and gives what that came
 // to, so that a whole text is a line of such calls from `Bytes(0)` on; specs/Buffer.antt says what a call does.
+#![tactic(auto)]
+
 ghost use Rattle.std.specs.Prelude.{◌≡◌, [], ◌∷◌, nat_abs};
 ghost use Rattle.text.specs.Decimal.{decimal, integer};
 ghost use Rattle.text.specs.Buffer.{Appends};

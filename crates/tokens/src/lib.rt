@@ -2,6 +2,8 @@
 // Nothing is known here of the levels of the grammar, nor of trees.
 //
 // specs/Tokens.antt says what a text begins with, and what is kept of it.
+#![tactic(auto)]
+
 ghost use Rattle.std.specs.Prelude.{◌≡◌, ◌<◌, length};
 ghost use Rattle.tokens.specs.Tokens.{cap, PostfixAs, LetterAs, Seen};
 ghost use Rattle.tokens.specs.Readers.{NumberAs, BoundAs, UpperAs, RangeAs, OffsetAs, Signed-at};

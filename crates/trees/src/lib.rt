@@ -2,6 +2,8 @@
 // tree keeps what the checks 5 to 8 of document 01 ask of the text that it was read from.
 //
 // specs/Trees.antt says what a tree keeps. What stands in a text, and where, is found in `parser`.
+#![tactic(auto)]
+
 ghost use Rattle.std.specs.Prelude.{◌≡◌, ◌||◌, ◌+◌, ◌*◌, ◌≤◌, ◌<◌, max, length};
 ghost use Rattle.expression.specs.declared.Node.TheVariants.{Infix, Applied};
 ghost use Rattle.expression.specs.Stored.{Placed};

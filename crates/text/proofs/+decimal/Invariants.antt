@@ -1,0 +1,5 @@
+use Rattle.text.proofs.+decimal.Given as goal
+
+-- the number itself
+abbrev pub decreases-decimal : goal.decreases-decimal
+decreases-decimal l = l.n
