@@ -1,8 +1,12 @@
 // What the cases of `finder_cases` have apart from the finder: the five numbers of a case, the words of a buffer before the call and the
 // question whether they are still there, and the lines that are printed.
+#![tactic(auto)]
+
 ghost use Rattle.std.specs.Prelude.{◌≡◌, true, ◌↔◌, ◌≤◌, ◌<◌};
 ghost use Rattle.case_parts.specs.Cases.{four_bytes, told_zones, case_of, word_before, AsBefore};
 ghost use Rattle.case_parts.specs.Zero.{Zero};
+
+use std::io;
 
 // The numbers of a case: the bytes of recording and drill, the words of the answer and of the work buffer, and the zones that `front` is told.
 #[derive(Drop)]
@@ -104,64 +108,63 @@ fn is_zero(words: &[i32], n: usize) -> bool
     true
 }
 
-fn print(text: &[u8]) {
-    io::write_all(1, text);
+fn print(rt: &impl Print, text: &[u8]) -> io::Result<()> {
+    rt.write_all(text)
 }
 
 // A number behind a text.
-fn print_number(text: &[u8], n: u64) {
-    print(text);
-    io::print_decimal(1, n);
+fn print_number(rt: &impl Print, text: &[u8], n: u64) -> io::Result<()> {
+    print(rt, text)?;
+    rt.print(n)
 }
 
 // The same as a line.
-pub fn print_line(text: &[u8], n: u64) {
-    print_number(text, n);
-    print(b"\n");
+pub fn print_line(rt: &impl Print, text: &[u8], n: u64) -> io::Result<()> {
+    print_number(rt, text, n)?;
+    print(rt, b"\n")
 }
 
 // The first n bytes of a text that has so many.
-pub fn print_part(text: &[u8], n: usize) {
+pub fn print_part(rt: &impl Print, text: &[u8], n: usize) -> io::Result<()> {
     if n <= text.len() {
-        print(&text[..n]);
+        print(rt, &text[..n])?;
     }
+    Ok(())
 }
 
 // What a call returned.
-pub fn print_returned(number: u32, zones: usize, rounds: u64) {
-    print_number(b"returned ", number as u64);
-    print_number(b" ", zones as u64);
-    print_line(b" ", rounds);
+pub fn print_returned(rt: &impl Print, number: u32, zones: usize, rounds: u64) -> io::Result<()> {
+    print_number(rt, b"returned ", number as u64)?;
+    print_number(rt, b" ", zones as u64)?;
+    print_line(rt, b" ", rounds)
 }
 
-fn print_behind(words: &[i32], start: usize) {
+fn print_behind(rt: &impl Print, words: &[i32], start: usize) -> io::Result<()> {
     if is_kept(words, start) {
-        print(b" kept behind\n");
+        print(rt, b" kept behind\n")
     } else {
-        print(b" written behind\n");
+        print(rt, b" written behind\n")
     }
 }
 
 // What a call left in an answer buffer whose filled front has so many words ..
-pub fn print_answer_state(answer: &[i32], filled: usize) {
+pub fn print_answer_state(rt: &impl Print, answer: &[i32], filled: usize) -> io::Result<()> {
     if is_kept(answer, 0) {
-        print(b"answer kept\n");
-        return;
+        return print(rt, b"answer kept\n");
     }
-    print_number(b"answer front ", filled as u64);
-    print_behind(answer, filled);
+    print_number(rt, b"answer front ", filled as u64)?;
+    print_behind(rt, answer, filled)
 }
 
 // .. and in a work buffer of which it clears so many.
-pub fn print_work_state(work: &[i32], cleared: usize) {
+pub fn print_work_state(rt: &impl Print, work: &[i32], cleared: usize) -> io::Result<()> {
     if is_kept(work, 0) {
-        print(b"work kept\n");
-        return;
+        return print(rt, b"work kept\n");
     }
     if is_zero(work, cleared) {
-        print(b"work zero");
+        print(rt, b"work zero")?;
     } else {
-        print(b"work not zero");
+        print(rt, b"work not zero")?;
     }
-    print_behind(work, cleared);
+    print_behind(rt, work, cleared)
 }

@@ -1,7 +1,26 @@
-// What counts of a file: the text of a drill without its final newline.
+// What counts of a file: as much as a buffer has room for, and the text of a drill without its final newline.
+#![tactic(auto)]
+
 ghost use Rattle.std.specs.Prelude.{◌≡◌, take};
 ghost use Rattle.io.specs.Counts.{IsPrefixLen};
 ghost use Rattle.files.specs.Files.{trimmed};
+
+use std::io::Read;
+
+// Reads until the buffer is full, the input ends or a read fails, and answers how many bytes stand at the start of the buffer.
+pub fn read_full(input: &mut impl Read, buffer: &mut [u8]) -> usize
+    ensures { IsPrefixLen result buffer.new }
+{
+    let mut done = 0;
+    while done < buffer.len() {
+        match input.read(&mut buffer[done..]) {
+            Ok(0) => return done,
+            Ok(n) => done += n,
+            Err(_) => return done,
+        }
+    }
+    done
+}
 
 // The length of a drill without its final newline, n bytes of the buffer being its text.
 pub fn drill_length(text: &[u8], n: usize) -> usize

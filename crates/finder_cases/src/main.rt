@@ -3,7 +3,12 @@
 // A case is five numbers of four bytes, low byte first: the lengths of recording and drill, the words of the answer and
 // of the work buffer, and the zones that `front` is told (the largest of these numbers stands for the largest `usize`).
 // The recording and the drill follow. Word i of either buffer is i before the call.
+#![tactic(auto)]
+
 ghost use Rattle.std.specs.Prelude.{◌≡◌, true, ◌≤◌, length};
+
+use std::io;
+use std::io::Read;
 
 // The largest inputs and buffers of a case.
 const RECORDING_BYTES: usize = 32_776;
@@ -15,68 +20,85 @@ const ANSWER_MOST: usize = 800;
 const WORK_MOST: usize = 16_400;
 
 // What the finder promises stays here: that printing is safe and ends needs none of it.
-fn call(recording: &[u8], drill: &[u8], answer: &mut [i32], work: &mut [i32], told: usize) {
+fn call(
+    rt: &impl Print,
+    recording: &[u8],
+    drill: &[u8],
+    answer: &mut [i32],
+    work: &mut [i32],
+    told: usize,
+) -> io::Result<()> {
     let outcome = finder::find(recording, drill, answer, work);
-    case_prints::print_call(outcome, answer, work, told);
+    case_prints::print_call(rt, outcome, answer, work, told)
 }
 
 // The call with so many words of both buffers.
-fn run(recording: &[u8], drill: &[u8], a: usize, w: usize, told: usize) {
+fn run(
+    rt: &impl Print,
+    recording: &[u8],
+    drill: &[u8],
+    a: usize,
+    w: usize,
+    told: usize,
+) -> io::Result<()> {
     if ANSWER_MOST < a {
-        return;
+        return Ok(());
     }
     if WORK_MOST < w {
-        return;
+        return Ok(());
     }
     let mut answer = [0i32; ANSWER_MOST];
     let mut work = [0i32; WORK_MOST];
     case_parts::fill(&mut answer);
     case_parts::fill(&mut work);
-    call(recording, drill, &mut answer[..a], &mut work[..w], told);
+    call(rt, recording, drill, &mut answer[..a], &mut work[..w], told)
 }
 
-// Reads n bytes from standard input into the buffer, and answers whether all of them came.
-fn is_read(buffer: &mut [u8], n: usize) -> bool
+// Reads n bytes of the input into the buffer, and answers whether all of them came.
+fn is_read(input: &mut impl Read, buffer: &mut [u8], n: usize) -> bool
     ensures { result ≡ true → n ≤ length buffer.old }
 {
     if buffer.len() < n {
         return false;
     }
-    let got = io::read_full(0, &mut buffer[..n]);
+    let got = files::read_full(input, &mut buffer[..n]);
     got == n
 }
 
 // Reads case k and runs it; answers whether it was all there.
-fn next_case(k: u64) -> bool {
+fn next_case(rt: &impl Print, input: &mut impl Read, k: u64) -> io::Result<bool> {
     let mut head = [0u8; 20];
-    if !is_read(&mut head, 20) {
-        return false;
+    if !is_read(input, &mut head, 20) {
+        return Ok(false);
     }
     let case = case_parts::numbers(&head);
     let n = case.recording;
     let mut recording = [0u8; RECORDING_BYTES];
-    if !is_read(&mut recording, n) {
-        return false;
+    if !is_read(input, &mut recording, n) {
+        return Ok(false);
     }
     let m = case.drill;
     let mut drill = [0u8; DRILL_BYTES];
-    if !is_read(&mut drill, m) {
-        return false;
+    if !is_read(input, &mut drill, m) {
+        return Ok(false);
     }
-    case_parts::print_line(b"case ", k);
+    case_parts::print_line(rt, b"case ", k)?;
     run(
+        rt,
         &recording[..n],
         &drill[..m],
         case.answer,
         case.work,
         case.told,
-    );
-    true
+    )?;
+    Ok(true)
 }
 
-fn main() {
+fn main(rt: HostRuntime) -> io::Result<()> {
+    let mut input = rt.stdin();
     let mut k = 1;
-    while k < 1_000_000 && next_case(k) {
+    while k < 1_000_000 && next_case(&rt, &mut input, k)? {
         k += 1;
     }
+    Ok(())
 }

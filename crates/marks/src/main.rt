@@ -1,7 +1,12 @@
 // Marks the drive in drive.rec by the drill in drill.txt, and prints the sheet.
+#![tactic(auto)]
+
 ghost use Rattle.std.specs.Prelude.{take};
 ghost use Rattle.io.specs.Counts.{IsPrefixLen};
 ghost use Rattle.marks.specs.Marks.{Marks};
+
+use std::rt::Files;
+use std::{fs, io};
 
 // Room for one byte more than is accepted of either file, of the drill beside its newline, so that a longer one is refused
 // for its length.
@@ -30,24 +35,21 @@ fn mark(
 
 // As much of a file as the buffer has room for; answers how many bytes that is. A file that can't be opened counts as
 // empty.
-fn read_file(path: &[u8], buffer: &mut [u8]) -> usize
+fn read_file(rt: &impl Files, path: &str, buffer: &mut [u8]) -> usize
     ensures { IsPrefixLen result buffer.new }
 {
-    let file = os::open_read(path);
-    if file < 0 {
+    let Ok(mut file) = fs::open(rt, path) else {
         return 0;
-    }
-    let n = io::read_full(file, buffer);
-    libc::close(file);
-    n
+    };
+    files::read_full(&mut file, buffer)
 }
 
-fn main() {
+fn main(rt: HostRuntime) -> io::Result<()> {
     let mut recording = [0u8; RECORDING_BYTES];
     let mut drill = [0u8; DRILL_BYTES];
     let mut out = [0u8; sheet::LONGEST];
-    let n = read_file(b"drive.rec", &mut recording);
-    let m = read_file(b"drill.txt", &mut drill);
+    let n = read_file(&rt, "drive.rec", &mut recording);
+    let m = read_file(&rt, "drill.txt", &mut drill);
     let size = mark(&recording, n, &drill, m, &mut out);
-    io::write_all(libc::STDOUT_FILENO, &out[..size]);
+    rt.write_all(&out[..size])
 }
