@@ -17,7 +17,7 @@ use parser::Parsed;
 use recording::Dimensions;
 
 // A drill that was read: the root of its tree, or the outcome of a call that refuses it.
-#[derive(Drop)]
+#[derive(Clone, Copy)]
 enum Drill {
     Root(u32),
     Refused(Outcome),

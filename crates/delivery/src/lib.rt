@@ -19,7 +19,7 @@ use recording::Dimensions;
 pub const WORK_WORDS: usize = 16_384;
 
 // What a stored drill comes to, with the lent buffers and the rounds told: the refusals 9, 10, 13 and 11, or its finished list.
-#[derive(Drop)]
+#[derive(Clone, Copy)]
 pub enum Worked {
     WorkShort,
     Overflow,

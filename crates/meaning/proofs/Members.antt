@@ -14,7 +14,7 @@ use Rattle.limit.specs.Limit.{Within}
 use Rattle.zone.specs.Zone.{In, InMaybe, Stretch, run, diagonal}
 use Rattle.limit.proofs.Times.{≤_trans, ≤-total, ≈-≤, ≤-≈, ≈-sym, ≈-trans, tick-≤}
 use Rattle.zone.proofs.Laws.{run_members, diagonal_members, band_members, whole_most}
-use Rattle.list.specs.Insert.{listed, insert_each}
+use Rattle.list.specs.Insert.{insert_each}
 use Rattle.operators.specs.Operators.{union as unite, meets, compositions, banded}
 use Rattle.absence.specs.Absence.{absent}
 use Rattle.star.specs.Pieces.{Pieces, Pieces.none, Pieces.more}

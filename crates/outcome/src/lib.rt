@@ -7,7 +7,7 @@ ghost use Rattle.outcome.specs.Outcome.{front_of, refusal, returned};
 
 // What a call comes to: a finished list, or the refusal whose cause holds and no earlier one does. Each call has its own list of causes, and
 // gives no other.
-#[derive(Drop)]
+#[derive(Clone, Copy)]
 pub enum Outcome {
     RecordingLength,
     RecordingHead,
@@ -26,7 +26,7 @@ pub enum Outcome {
 }
 
 // What a call returns: its number (0 where it is accepted), the zones listed and the total of rounds.
-#[derive(Drop)]
+#[derive(Clone, Copy)]
 pub struct Returned {
     pub number: u32,
     pub zones: usize,

@@ -25,7 +25,7 @@ use words::ZONE_WORDS;
 use zone::{MaybeZone, Zone};
 
 // The ticks from..to of a recording that was read: where a drill is evaluated.
-#[derive(Drop)]
+#[derive(Clone, Copy)]
 pub struct Window {
     pub size: Dimensions,
     pub from: u32,
@@ -49,7 +49,7 @@ pub fn point(work: &mut [i32], base: usize, from: u32, to: u32, told: u64) -> Ev
 }
 
 // What is put for each run of ticks.
-#[derive(Drop)]
+#[derive(Clone, Copy)]
 enum Mark {
     // The stretches in it.
     Inside,

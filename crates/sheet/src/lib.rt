@@ -19,7 +19,7 @@ use zone::Zone;
 pub const LONGEST: usize = 12_288;
 
 // What writing a sheet comes to.
-#[derive(Drop)]
+#[derive(Clone, Copy)]
 pub enum Printed {
     // All of it, so many bytes from the front.
     Bytes(usize),
