@@ -20,7 +20,7 @@ star-starred-requires c = (
 
 pub returns-in_default : goal.returns-in_default
 returns-in_default c = record {
-      value = unlisted_elsewhere _ _ _ _ _ _ c.star-starred.result c.in_default-own.keys2 c.star-starred.ensures.closed;
+      value = unlisted_elsewhere _ _ _ _ _ _ c.star-starred.result c.in_default.in_default-own.keys2 c.star-starred.ensures.closed;
       kept = kept_region (omega arith) (omega arith) (omega arith) (omega arith) c.star-starred.ensures.kept;
     }
 
