@@ -1,3 +1,4 @@
 pub mod Checks
 pub mod Additions
 pub mod Parses
+pub mod Levels

@@ -4,6 +4,8 @@
 // specs/Parsing.antt says what the answer is. The readers of the grammar's levels (alternative, conjunction, sequence, factor,
 // repeat, primary) call each other in a cycle; each reads the text from `at` on, and tells where it ends. What stands at a place of
 // the text is read in `tokens`, a primary without brackets in `leaves`, and `trees` puts the nodes together.
+#![tactic(auto)]
+
 ghost use Rattle.std.specs.Prelude.{◌≡◌, ◌*◌, ◌≤◌, ◌<◌, min, length};
 ghost use Rattle.expression.specs.declared.Join.TheVariants.{Union, Intersection, Concatenation};
 ghost use Rattle.parser.specs.Parsing.{ParsedAs};
@@ -39,7 +41,7 @@ fn wrong_operator(op: Unary) -> bool
 }
 
 // Conjunctions joined by `|`.
-#[cycle(alternative_chain_conjunction_factor_operand_primary_repeat_sequence)]
+#[cycle(grammar)]
 fn alternative(text: &[u8], at: usize, nodes: &mut [u32], used: u32) -> Read
     requires { Ready text.now at nodes.old used }
     ensures { ReadAs (joining Union) text.now at used nodes.old nodes.new result }
@@ -48,7 +50,7 @@ fn alternative(text: &[u8], at: usize, nodes: &mut [u32], used: u32) -> Read
 }
 
 // Sequences joined by `&`.
-#[cycle(alternative_chain_conjunction_factor_operand_primary_repeat_sequence)]
+#[cycle(grammar)]
 fn conjunction(text: &[u8], at: usize, nodes: &mut [u32], used: u32) -> Read
     requires { Ready text.now at nodes.old used }
     ensures { ReadAs (joining Intersection) text.now at used nodes.old nodes.new result }
@@ -57,7 +59,7 @@ fn conjunction(text: &[u8], at: usize, nodes: &mut [u32], used: u32) -> Read
 }
 
 // Factors joined by `.`.
-#[cycle(alternative_chain_conjunction_factor_operand_primary_repeat_sequence)]
+#[cycle(grammar)]
 fn sequence(text: &[u8], at: usize, nodes: &mut [u32], used: u32) -> Read
     requires { Ready text.now at nodes.old used }
     ensures { ReadAs (joining Concatenation) text.now at used nodes.old nodes.new result }
@@ -77,7 +79,7 @@ fn symbol(join: Join) -> u8
 }
 
 // Operands of a join, one or more, grouped to the left.
-#[cycle(alternative_chain_conjunction_factor_operand_primary_repeat_sequence)]
+#[cycle(grammar)]
 fn chain(text: &[u8], at: usize, nodes: &mut [u32], used: u32, join: Join) -> Read
     requires { Ready text.now at nodes.old used }
     ensures { ReadAs (joining join) text.now at used nodes.old nodes.new result }
@@ -97,7 +99,7 @@ fn chain(text: &[u8], at: usize, nodes: &mut [u32], used: u32, join: Join) -> Re
 }
 
 // An operand of a join, which is of the level below it.
-#[cycle(alternative_chain_conjunction_factor_operand_primary_repeat_sequence)]
+#[cycle(grammar)]
 fn operand(text: &[u8], at: usize, nodes: &mut [u32], used: u32, join: Join) -> Read
     requires { Ready text.now at nodes.old used }
     ensures { ReadAs (below join) text.now at used nodes.old nodes.new result }
@@ -110,7 +112,7 @@ fn operand(text: &[u8], at: usize, nodes: &mut [u32], used: u32, join: Join) -> 
 }
 
 // A repeat, with or without a `~` before it.
-#[cycle(alternative_chain_conjunction_factor_operand_primary_repeat_sequence)]
+#[cycle(grammar)]
 fn factor(text: &[u8], at: usize, nodes: &mut [u32], used: u32) -> Read
     requires { Ready text.now at nodes.old used }
     ensures { ReadAs factoring text.now at used nodes.old nodes.new result }
@@ -125,7 +127,7 @@ fn factor(text: &[u8], at: usize, nodes: &mut [u32], used: u32) -> Read
 }
 
 // A primary followed by any number of `*` and `{lo,hi}`.
-#[cycle(alternative_chain_conjunction_factor_operand_primary_repeat_sequence)]
+#[cycle(grammar)]
 fn repeat(text: &[u8], at: usize, nodes: &mut [u32], used: u32) -> Read
     requires { Ready text.now at nodes.old used }
     ensures { ReadAs repeating text.now at used nodes.old nodes.new result }
@@ -143,7 +145,7 @@ fn repeat(text: &[u8], at: usize, nodes: &mut [u32], used: u32) -> Read
 }
 
 // A whole alternative in round brackets, or a leaf.
-#[cycle(alternative_chain_conjunction_factor_operand_primary_repeat_sequence)]
+#[cycle(grammar)]
 fn primary(text: &[u8], at: usize, nodes: &mut [u32], used: u32) -> Read
     requires { Ready text.now at nodes.old used }
     ensures { ReadAs single text.now at used nodes.old nodes.new result }

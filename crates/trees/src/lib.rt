@@ -12,7 +12,7 @@ ghost use Rattle.trees.specs.Trees.{over, beside, around, nothing, Room};
 use expression::{Join, Node, Unary};
 
 // A part of the text that was read: what is unread starts at `at`, and `used` nodes are stored.
-#[derive(Drop)]
+#[derive(Clone, Copy)]
 pub struct Tree {
     pub at: usize,
     pub root: u32,
