@@ -1,0 +1,7 @@
+-- Each read takes up where the last one ended.
+use Rattle.std.proofs.Common.{rules}
+use Rattle.files.proofs.Filled.{more}
+use Rattle.files.proofs.read_full.Goals as goal
+
+pub loop-done-preserved : goal.loop-done-preserved
+loop-done-preserved g c = (search rules, more _ _ _ _ _ _ _ _ c.loop-done.invariant.0 c.in-Ok.ensures.bound.0 c.loop-done.invariant.1 c.in-Ok.ensures.bytes.0)
