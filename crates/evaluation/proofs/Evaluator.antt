@@ -1,8 +1,6 @@
 -- One step of the evaluator: what a node says of its expression, and how the values of its operands make its own.
 use mathlib.Core.Path.{◌≡◌, refl, sym, subst, ◌∙◌}
 use mathlib.Core.List.{List, [], ◌∷◌}
-use types.Run.{OneOf}
-use denote.Enum.Declared.{tag_of}
 use mathlib.Core.Logic.{inl}
 use Prim.Native.Nat.{ℕ, ◌+◌, ◌-◌, ◌*◌, ◌≤◌, ◌<◌}
 use native.Mathlib.Omega.{arith}
@@ -25,7 +23,7 @@ use Rattle.primaries.specs.Windows.{Looks}
 use Rattle.primaries.specs.declared.Window.{Window}
 use Rattle.values.specs.Values.{OperandAt}
 use Rattle.purse.specs.declared.Evaluated.{Evaluated}
-use Rattle.purse.specs.contracts.Evaluated.{the_type}
+use Rattle.values.proofs.Standings.{NoList}
 use Rattle.purse.specs.Purse.{Standing, EvaluatedAs}
 use Rattle.meaning.proofs.Evaluation.{One, Some, then_some, evaluates_well, evaluates_unique, evaluates_exists}
 use Rattle.evaluation.proofs.Operands.{then_goes, then_stops}
@@ -123,7 +121,7 @@ module _ {bytes : List ℕ} {window : Window} (looks : Looks bytes window) where
     whole-one = subst (λ (x : Expression). EvaluatedAs (Comes x) told ws base r) (sym is)
 
     -- without a list
-    pub one-stops : (us : List ℤ) (at : ℕ) → OneOf (1 ∷ 2 ∷ []) (tag_of the_type r) → EvaluatedAs (Comes f) told us at r → EvaluatedAs (Comes e) told ws base r
+    pub one-stops : (us : List ℤ) (at : ℕ) → NoList r → EvaluatedAs (Comes f) told us at r → EvaluatedAs (Comes e) told ws base r
     one-stops us at k a = whole-one (then_stops (Comes f) (applied window.from window.to op) told (one f) (some (unary op f)) us ws at base r k a)
 
     -- with one
@@ -137,7 +135,7 @@ module _ {bytes : List ℕ} {window : Window} (looks : Looks bytes window) where
     whole-two = subst (λ (x : Expression). EvaluatedAs (Comes x) told ws base r) (sym is)
 
     -- the left one without a list
-    pub left-stops : (us : List ℤ) (at : ℕ) → OneOf (1 ∷ 2 ∷ []) (tag_of the_type r) → EvaluatedAs (Comes f) told us at r → EvaluatedAs (Comes e) told ws base r
+    pub left-stops : (us : List ℤ) (at : ℕ) → NoList r → EvaluatedAs (Comes f) told us at r → EvaluatedAs (Comes e) told ws base r
     left-stops us at k a = whole-two (then_stops (Comes f) (λ A. Then (Comes g) (λ B v. v ≡ ended (join_list op A B))) told (one f) (some (join op f g)) us ws at base r k a)
 
     module _ {us : List ℤ} {at n left : ℕ} (s : Standing (Comes f) told us at n left) where
@@ -149,7 +147,7 @@ module _ {bytes : List ℕ} {window : Window} (looks : Looks bytes window) where
       after-left a = whole-two (then_goes (Comes f) (λ A. Then (Comes g) (λ B v. v ≡ ended (join_list op A B))) told s.list s.rounds left s.means s.spends ws base r a)
 
       -- the right one without a list
-      pub right-stops : (vs : List ℤ) (next : ℕ) → OneOf (1 ∷ 2 ∷ []) (tag_of the_type r) → EvaluatedAs (Comes g) left vs next r → EvaluatedAs (Comes e) told ws base r
+      pub right-stops : (vs : List ℤ) (next : ℕ) → NoList r → EvaluatedAs (Comes g) left vs next r → EvaluatedAs (Comes e) told ws base r
       right-stops vs next k a = after-left (then_stops (Comes g) Next left (one g) (then_some (some g) (λ B q _. (ended (join_list op s.list B), refl))) vs ws next base r k a)
 
       -- both with one

@@ -1,8 +1,6 @@
 -- What was built in a slot, as the value of an operator.
 use mathlib.Core.Path.{◌≡◌, refl, sym, ap}
-use mathlib.Core.List.{List, [], ◌∷◌}
-use types.Run.{OneOf, miss}
-use denote.Enum.Declared.{tag_of}
+use mathlib.Core.List.{List}
 use Prim.Native.Nat.{ℕ, ◌+◌, ◌≤◌}
 use native.Mathlib.Omega.{arith}
 use lib.IntN.{ℤ}
@@ -25,8 +23,7 @@ use Rattle.expression.specs.declared.Upper.TheVariants.{Endless, UpTo}
 use Rattle.expression.specs.Refusal.{figure, Wrong}
 use Rattle.expression.proofs.Laws.{right_range}
 use Rattle.meaning.specs.Satisfies.{upper_limit, lower_limit}
-use Rattle.meaning.specs.Lists.{Value, value, ended, longest, range_band}
-use Rattle.purse.specs.contracts.Evaluated.{the_type}
+use Rattle.meaning.specs.Lists.{Value, ended, longest, range_band}
 use Rattle.purse.specs.declared.Evaluated.{Evaluated}
 use Rattle.purse.specs.declared.Evaluated.TheVariants.{Listed, Overflow, Spent}
 use Rattle.purse.specs.Purse.{Standing, Overflowed, EvaluatedAs}
@@ -41,14 +38,18 @@ evaluated_map P Q told ws base f Spent x = record { whole = x.whole; means = f _
 
 -- ---- no list
 
+-- an answer that is no list, as the code that returns it knows it
+abbrev pub NoList : Evaluated → Type 0
+NoList r = (n left : ℕ) → ¬ (r ≡ Listed n left)
+
 -- what is answered where there is no list is that it overflows or that rounds are spent: the code returns such an answer as it came
-pub unlisted : (P Q : Evaluated → Type 0) (r : Evaluated) → OneOf (1 ∷ 2 ∷ []) (tag_of the_type r) → ((left : ℕ) → P (Overflow left) → Q (Overflow left)) → (P Spent → Q Spent) → P r → Q r
-unlisted P Q (Listed n left) k f g p = absurd (miss (1 ∷ 2 ∷ []) 0 tt k)
+pub unlisted : (P Q : Evaluated → Type 0) (r : Evaluated) → NoList r → ((left : ℕ) → P (Overflow left) → Q (Overflow left)) → (P Spent → Q Spent) → P r → Q r
+unlisted P Q (Listed n left) k f g p = absurd (k n left refl)
 unlisted P Q (Overflow left) k f g p = f left p
 unlisted P Q Spent k f g p = g p
 
 -- so it is the same wherever the words stand
-pub unlisted_elsewhere : (comes : Value → Type 0) (told : ℕ) (ws vs : List ℤ) (at base : ℕ) (r : Evaluated) → OneOf (1 ∷ 2 ∷ []) (tag_of the_type r) → EvaluatedAs comes told ws at r → EvaluatedAs comes told vs base r
+pub unlisted_elsewhere : (comes : Value → Type 0) (told : ℕ) (ws vs : List ℤ) (at base : ℕ) (r : Evaluated) → NoList r → EvaluatedAs comes told ws at r → EvaluatedAs comes told vs base r
 unlisted_elsewhere comes told ws vs at base r k = unlisted (EvaluatedAs comes told ws at) (EvaluatedAs comes told vs base) r k (λ left o. o) (λ x. x)
 
 -- ---- a list that was built without rounds

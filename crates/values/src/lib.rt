@@ -2,6 +2,8 @@
 // to its place.
 //
 // The crate `purse` says how a slot holds a value; `meaning` which value it is.
+#![tactic(auto)]
+
 ghost use Rattle.std.specs.Prelude.{◌≡◌, ◌+◌, ◌*◌, ◌≤◌};
 ghost use Rattle.limit.specs.Limit.{most_ticks};
 ghost use Rattle.list.specs.Slots.{slot_words, list_at, Kept, Source};

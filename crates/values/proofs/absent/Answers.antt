@@ -9,12 +9,12 @@ absent-requires c =
 
 pub returns-in_default : goal.returns-in_default
 returns-in_default c = record {
-      value = over _ (rw c.in_default.is at c.absent.ensures.built).0;
-      kept = c.absent.ensures.kept;
-    }
+  value = over _ (rw c.in_default.is at c.absent.ensures.built).0;
+  kept = c.absent.ensures.kept;
+}
 
 pub returns : goal.returns
 returns c = record {
-      value = stands _ (rw c.in-Count.is at c.absent.ensures.built);
-      kept = c.absent.ensures.kept;
-    }
+  value = stands _ (rw c.in-Count.is at c.absent.ensures.built);
+  kept = c.absent.ensures.kept;
+}

@@ -19,9 +19,9 @@ band-requires c = (
 
 pub returns-in_default : goal.returns-in_default
 returns-in_default c = record {
-      value = over _ (rw (c.range_band-band.ensures, c.in_default.is) at c.band.ensures.built).0;
-      kept = kept_region (omega arith) (omega arith) (omega arith) (omega arith) c.band.ensures.kept;
-    }
+  value = over _ (rw (c.range_band-band.ensures, c.in_default.is) at c.band.ensures.built).0;
+  kept = kept_region (omega arith) (omega arith) (omega arith) (omega arith) c.band.ensures.kept;
+}
 
 pub bring-requires : goal.bring-requires
 bring-requires c = let l = rw c.in-Count.is at c.band.ensures.built in
@@ -29,6 +29,6 @@ bring-requires c = let l = rw c.in-Count.is at c.band.ensures.built in
 
 pub returns : goal.returns
 returns c = record {
-      value = stands_brought (stands _ (rw (c.range_band-band.ensures, c.in-Count.is) at c.band.ensures.built)) c.bring.ensures.list;
-      kept = kept_trans (kept_region (omega arith) (omega arith) (omega arith) (omega arith) c.band.ensures.kept) (kept_within (omega arith) (omega arith) c.bring.ensures.kept);
-    }
+  value = stands_brought (stands _ (rw (c.range_band-band.ensures, c.in-Count.is) at c.band.ensures.built)) c.bring.ensures.list;
+  kept = kept_trans (kept_region (omega arith) (omega arith) (omega arith) (omega arith) c.band.ensures.kept) (kept_within (omega arith) (omega arith) c.bring.ensures.kept);
+}

@@ -14,9 +14,9 @@ build-requires c =
 
 pub returns-in_default : goal.returns-in_default
 returns-in_default c = record {
-      value = over _ (rw c.in_default.is at c.build.ensures.built).0;
-      kept = kept_within (omega arith) (omega arith) c.build.ensures.kept;
-    }
+  value = over _ (rw c.in_default.is at c.build.ensures.built).0;
+  kept = kept_within (omega arith) (omega arith) c.build.ensures.kept;
+}
 
 pub bring-requires : goal.bring-requires
 bring-requires c =
@@ -26,6 +26,6 @@ bring-requires c =
 
 pub returns : goal.returns
 returns c = record {
-      value = stands_brought (stands _ (rw c.in-Count.is at c.build.ensures.built)) c.bring.ensures.list;
-      kept = kept_trans (kept_within (omega arith) (omega arith) c.build.ensures.kept) (kept_within (omega arith) (omega arith) c.bring.ensures.kept);
-    }
+  value = stands_brought (stands _ (rw c.in-Count.is at c.build.ensures.built)) c.bring.ensures.list;
+  kept = kept_trans (kept_within (omega arith) (omega arith) c.build.ensures.kept) (kept_within (omega arith) (omega arith) c.bring.ensures.kept);
+}

@@ -8,13 +8,12 @@ pub lower_limit-requires : goal.lower_limit-requires
 lower_limit-requires c = lower_small c.args.range c.requires.1
 
 pub band-requires : goal.band-requires
-band-requires c =
-    (
-      omega (arith, c.requires.0.forward, c.requires.0.small),
-      c.requires.0.small,
-      rw c.longest.ensures (small_longest c.args.from c.args.to c.args.range c.requires.0.small c.requires.1),
-      rw c.lower_limit.ensures (small_lower c.args.range.lo (lower_small c.args.range c.requires.1)),
-    )
+band-requires c = (
+  omega (arith, c.requires.0.forward, c.requires.0.small),
+  c.requires.0.small,
+  rw c.longest.ensures (small_longest c.args.from c.args.to c.args.range c.requires.0.small c.requires.1),
+  rw c.lower_limit.ensures (small_lower c.args.range.lo (lower_small c.args.range c.requires.1)),
+)
 
 pub returns : goal.returns
 returns c =

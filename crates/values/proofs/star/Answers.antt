@@ -20,9 +20,9 @@ star-starred-requires c = (
 
 pub returns-in_default : goal.returns-in_default
 returns-in_default c = record {
-      value = unlisted_elsewhere _ _ _ _ _ _ c.star-starred.result c.in_default.in_default-own.keys2 c.star-starred.ensures.closed;
-      kept = kept_region (omega arith) (omega arith) (omega arith) (omega arith) c.star-starred.ensures.kept;
-    }
+  value = unlisted_elsewhere _ _ _ _ _ _ c.star-starred.result c.in_default.not-Listed c.star-starred.ensures.closed;
+  kept = kept_region (omega arith) (omega arith) (omega arith) (omega arith) c.star-starred.ensures.kept;
+}
 
 pub bring-requires : goal.bring-requires
 bring-requires c =
@@ -31,6 +31,6 @@ bring-requires c =
 
 pub returns : goal.returns
 returns c = record {
-      value = stands_brought (rw c.in-Listed.is at c.star-starred.ensures.closed) c.bring.ensures.list;
-      kept = kept_trans (kept_region (omega arith) (omega arith) (omega arith) (omega arith) c.star-starred.ensures.kept) (kept_within (omega arith) (omega arith) c.bring.ensures.kept);
-    }
+  value = stands_brought (rw c.in-Listed.is at c.star-starred.ensures.closed) c.bring.ensures.list;
+  kept = kept_trans (kept_region (omega arith) (omega arith) (omega arith) (omega arith) c.star-starred.ensures.kept) (kept_within (omega arith) (omega arith) c.bring.ensures.kept);
+}
