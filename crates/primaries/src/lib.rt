@@ -1,6 +1,8 @@
 // The lists of the parts of a drill that have no operands, in a slot of a lent work buffer: of `_`, and of a letter with its sign.
 //
 // The crate `meaning` says which list each has; `purse` how a slot holds it. None has a round: those told are left.
+#![tactic(auto)]
+
 ghost use Rattle.std.specs.Prelude.{◌≡◌, [], ◌∷◌, ◌+◌, ◌-◌, ◌≤◌, min, length};
 ghost use Rattle.limit.specs.Limit.{most_ticks};
 ghost use Rattle.zone.specs.declared.MaybeZone.TheVariants.{Zone as zone};
