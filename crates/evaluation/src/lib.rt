@@ -2,6 +2,8 @@
 //
 // The crate `meaning` says which list and rounds an expression comes to; `purse` how a slot holds them, and what rounds told are to them;
 // `primaries` has the lists of the parts without operands, `values` those of the operators.
+#![tactic(auto)]
+
 ghost use Rattle.std.specs.Prelude.{◌+◌, ◌*◌, ◌≤◌, length};
 ghost use Rattle.list.specs.Slots.{slot_words, Kept};
 ghost use Rattle.runs.specs.Levels.{Shows};

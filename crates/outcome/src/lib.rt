@@ -2,6 +2,8 @@
 // `front` gives back the words of the listed zones. Nothing is known here of recordings and drills: which outcome a call has is in `finder`.
 //
 // specs/Outcome.antt has what each outcome returns and leaves, and the front of an answer.
+#![tactic(auto)]
+
 ghost use Rattle.std.specs.Prelude.{◌≡◌};
 ghost use Rattle.outcome.specs.Outcome.{front_of, refusal, returned};
 
