@@ -4,6 +4,8 @@
 // specs/Outcome.antt has the causes of a refusal, with specs/Outcome.antt of `outcome` for what each outcome returns and leaves and
 // specs/Buffers.antt of `delivery` for what the buffers hold; specs/Causes.antt which cause of a list is the first. specs/Within.antt has the
 // call that is told the rounds left.
+#![tactic(auto)]
+
 ghost use Rattle.std.specs.Prelude.{◌≡◌, ◌*◌, ◌≤◌, min, length};
 ghost use Rattle.recording.specs.declared.Reading.TheVariants.{Recorded};
 ghost use Rattle.recording.specs.Reading.{ReadingAs};

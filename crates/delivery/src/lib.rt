@@ -2,6 +2,8 @@
 // the work buffer is cleared.
 //
 // specs/Working.antt has what `work_out` comes to, and specs/Buffers.antt what both buffers then hold.
+#![tactic(auto)]
+
 ghost use Rattle.std.specs.Prelude.{◌≡◌, ◌*◌, ◌≤◌, length};
 ghost use Rattle.words.specs.Words.{zone_words};
 ghost use Rattle.list.specs.Slots.{list_at};
