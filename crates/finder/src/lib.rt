@@ -4,6 +4,8 @@
 // specs/Demands.antt is the page to read: the three demands, one clause each in the contract of a call. specs/Outcome.antt of `calls` has the
 // outcome of `find` and both buffers after it, specs/Within.antt those of `find_within`. proofs/Demands.antt proves the demands of every call that
 // has the defined outcome.
+#![tactic(auto)]
+
 ghost use Rattle.finder.specs.Demands.{Demand1, Demand1Within, Demand2, Demand3};
 
 use outcome::Outcome;

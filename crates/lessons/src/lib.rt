@@ -18,14 +18,14 @@ use text::Written;
 pub const LONGEST: usize = 98_320;
 
 // What a lesson comes to: 0, or the number that refuses it; and how many bytes are printed.
-#[derive(Drop)]
+#[derive(Clone, Copy)]
 pub struct Lesson {
     pub number: u32,
     pub size: usize,
 }
 
 // What is known before any drill: the refusal that is printed alone, or how many drills there are.
-#[derive(Drop)]
+#[derive(Clone, Copy)]
 enum Judged {
     Refused(Outcome),
     Drills(usize),

@@ -1,5 +1,7 @@
 // The sheet of a call: the bytes that the program prints for an outcome and the words of its zones, written into a lent
 // buffer. specs/Sheet.antt is the text, piece by piece; each private function puts one piece behind what is written so far.
+#![tactic(auto)]
+
 ghost use Rattle.std.specs.Prelude.{◌≡◌, [], ◌∷◌, ◌++◌, ◌*◌, ◌≤◌, ◌<◌, neg_ℤ, length};
 ghost use Rattle.std.specs.Int.Signed.{mag};
 ghost use Rattle.limit.specs.Limit.{value};
