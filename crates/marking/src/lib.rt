@@ -1,4 +1,6 @@
 // The sheet of a recording and a drill: a call of the finder on buffers of its own, and the text of its outcome.
+#![tactic(auto)]
+
 ghost use Rattle.std.specs.Prelude.{◌≡◌, take, drop};
 ghost use Rattle.io.specs.Counts.{IsPrefixLen};
 ghost use Rattle.marking.specs.Marking.{MarkedAs};
