@@ -12,7 +12,7 @@ fn main() {
         return;
     }
     let package = env::var("CARGO_MANIFEST_DIR").expect("cargo sets CARGO_MANIFEST_DIR");
-    let directory = env::var(DIRECTORY).unwrap_or_else(|_| "../target/staticlib".into());
+    let directory = env::var(DIRECTORY).unwrap_or_else(|_| "../crates/exports/out".into());
     // A relative directory is meant from the package, wherever cargo was started.
     let directory = Path::new(&package).join(directory);
     let archive = directory.join("libexports.a");
