@@ -1,6 +1,8 @@
 // The results of drills that are run in order over one recording, each with rounds of its own and the buffers that the one before it left, as text.
 //
 // specs/Results.antt says what is printed; the crate `lines` how a store holds the drills.
+#![tactic(auto)]
+
 ghost use Rattle.std.specs.Prelude.{◌≤◌, ◌<◌, length};
 ghost use Rattle.lines.specs.Lines.{most_lines};
 ghost use Rattle.lines.specs.Taken.{store_bytes};
