@@ -2,6 +2,8 @@
 //
 // specs/Lessons.antt says what is printed and what both lent buffers hold afterwards; the crate `lines` which drills a text has, and `results` what
 // each of them prints.
+#![tactic(auto)]
+
 ghost use Rattle.std.specs.Prelude.{◌≡◌, List, ℕ, ◌≤◌, length, take, drop};
 ghost use Rattle.io.specs.Counts.{IsPrefixLen};
 ghost use Rattle.lines.specs.Taken.{store_bytes, CountedAs};
