@@ -1,6 +1,6 @@
 -- A drill's result hangs on the recording, its own text and the lengths of both buffers, and not on what they hold.
-use mathlib.Core.Path.{◌≡◌, refl, sym, ap, subst, ◌∙◌}
-use mathlib.Core.List.{List, [], ◌∷◌}
+use mathlib.Core.Path.{◌≡◌, sym, ap, subst, ◌∙◌}
+use mathlib.Core.List.{List, []}
 use Prim.Native.Nat.{ℕ, zero, suc, ◌≤◌, ◌<◌}
 use native.Mathlib.Decide.{dec_le}
 use native.Mathlib.Nat.{le_of_suc-le-suc}
@@ -8,7 +8,7 @@ use native.Mathlib.Omega.{arith}
 use lib.IntN.{ℤ}
 use lib.ListN.{length, get_or}
 use Rattle.outcome.proofs.Numbers.{zero_finished}
-use Rattle.calls.specs.Outcome.{Outcome, Finished, returned, front_of, words, FindAs}
+use Rattle.calls.specs.Outcome.{Outcome, returned, front_of, FindAs}
 use Rattle.calls.specs.Within.{CallWithin, WithinAs}
 use Rattle.calls.proofs.Causes.{call-unique}
 use Rattle.calls.proofs.Comes.{comes_unique, finishes_once}

@@ -10,7 +10,7 @@ use lib.IntN.{ℤ, pos}
 use lib.ListN.{length, replicate, length-replicate}
 use Rattle.words.specs.Words.{zone_words}
 use Rattle.delivery.specs.Buffers.{zeroed, cleared}
-use Rattle.calls.specs.Causes.{First, CallAs.refused, CallAs.accepted}
+use Rattle.calls.specs.Causes.{CallAs.refused, CallAs.accepted}
 use Rattle.calls.specs.Outcome.{Outcome, WorkShort, Overflow, RoundsSpent, AnswerShort, Finished, returned, Left, both, answer-buffer, leaves, room, Comes, LeftAs, BuffersAs}
 use Rattle.calls.specs.Within.{CauseWithin, CallWithin, WithinAs}
 use Rattle.calls.proofs.Causes.{none, ◌also◌, none_of, Alike, nothing, both as Alike-both, first_split, call-unique}

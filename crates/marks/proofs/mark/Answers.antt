@@ -1,0 +1,10 @@
+-- The sheet of what was read is the sheet of the files.
+use Rattle.std.proofs.Common.{arith}
+use Rattle.marks.proofs.Files.{of_files}
+use Rattle.marks.proofs.mark.Goals as goal
+
+pub returns : goal.returns
+returns c = record {
+  sheet = of_files (omega arith) (omega arith) c.drill_length-k.ensures.drill c.sheet_of.ensures.sheet;
+  count = c.sheet_of.ensures.count;
+}
