@@ -1,5 +1,7 @@
 // The finder for programs in other languages: its calls on numbers and slices alone, with what `finder`, `lessons` and `outcome` promise
 // of them.
+#![tactic(auto)]
+
 ghost use Rattle.std.specs.Prelude.{◌≡◌, ◌≤◌, ◌<◌, length};
 ghost use Rattle.outcome.specs.Outcome.{front_of};
 ghost use Rattle.lessons.specs.Lessons.{longest_lesson};

@@ -1,0 +1,17 @@
+-- The promises of `finder::find_within`, in a number, a place for the rounds left and two counts; or no call.
+use Rattle.std.proofs.Common.{refl, ap, ◌∙◌, ◌∷◌, arith, drop}
+use Rattle.exports.proofs.Counts.{two}
+use Rattle.outcome.specs.declared.Returned.{Returned}
+use Rattle.exports.proofs.zikpasho_within.Goals as goal
+
+pub returns-then-counts-lt2 : goal.returns-then-counts-lt2
+returns-then-counts-lt2 c = record {
+  call = λ h. absurd (omega (arith, c.if-counts-lt2.true));
+  none = λ h. record { uncalled = record { number_is = refl; answer_kept = refl; work_kept = refl; counts_kept = refl }; left_kept = refl };
+}
+
+pub returns : goal.returns
+returns c = record {
+  call = λ h. record { outcome = c.find_within-outcome.result; number_is = ap (λ (r : Returned). r.number) c.returned-got.ensures; counts_are = two c.args.counts.now _ _ h ∙ ap (λ (r : Returned). r.zones ∷ r.rounds ∷ drop 2 c.args.counts.now) c.returned-got.ensures; demand1 = c.find_within-outcome.ensures.demand1; demand2 = c.find_within-outcome.ensures.demand2; demand3 = c.find_within-outcome.ensures.demand3 };
+  none = λ h. absurd (omega (arith, c.if-counts-lt2.false));
+}
