@@ -7,7 +7,8 @@ use Rattle.zone.specs.declared.Zone.{Zone}
 use Rattle.zone.specs.Zone.{compose, diagonal, run, across, where_room}
 use Rattle.extremes.specs.declared.Seen.TheVariants.{Unseen}
 use Rattle.extremes.specs.Ends.{Reached, Unreached, Ends, Nothing, Between}
-use Rattle.extremes.specs.Steps.{see_each, told}
+use Rattle.extremes.specs.Steps.{told}
+use Rattle.extremes.proofs.Each.{see_each}
 
 abbrev from : ℕ → List Zone → Ends
 from s L = told (see_each s Unseen L)

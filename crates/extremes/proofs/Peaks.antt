@@ -31,7 +31,8 @@ use Rattle.list.proofs.Members.{lies}
 use Rattle.extremes.specs.declared.Seen.{Seen}
 use Rattle.extremes.specs.declared.Seen.TheVariants.{Unseen, Limits}
 use Rattle.extremes.specs.Ends.{tick_of, At, EndsAs, EndsAs.none, EndsAs.some}
-use Rattle.extremes.specs.Steps.{see, see_each, latest, earliest, told}
+use Rattle.extremes.specs.Steps.{see, latest, earliest, told}
+use Rattle.extremes.proofs.Each.{see_each}
 use Rattle.extremes.proofs.Limits.{end_bound, end_below, end_attained, end_near, nend_bound, nend_below, nend_attained, nend_low, nend_near}
 
 -- ---- the greatest limit of the stretches S on side k

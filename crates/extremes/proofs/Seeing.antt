@@ -16,7 +16,8 @@ use Rattle.list.proofs.Slots.{list_at_next}
 use Rattle.extremes.specs.declared.Seen.{Seen}
 use Rattle.extremes.specs.declared.Seen.TheVariants.{Unseen}
 use Rattle.extremes.specs.Ends.{EndsAs}
-use Rattle.extremes.specs.Steps.{see, see_each, told}
+use Rattle.extremes.specs.Steps.{see, told}
+use Rattle.extremes.proofs.Each.{see_each}
 use Rattle.extremes.proofs.Peaks.{ends_told}
 
 -- of n zones in front of the words, i are seen

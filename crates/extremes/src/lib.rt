@@ -10,7 +10,8 @@ ghost use Rattle.limit.specs.Limit.{greater};
 ghost use Rattle.list.specs.Members.{Lies};
 ghost use Rattle.list.specs.Slots.{list_at};
 ghost use Rattle.extremes.specs.Ends.{EndsAs};
-ghost use Rattle.extremes.specs.Steps.{Askable, see, above, under, latest, earliest, told};
+ghost use Rattle.extremes.specs.Asking.{Askable};
+ghost use Rattle.extremes.specs.Steps.{see, above, under, latest, earliest, told};
 
 use limit::Limit;
 use words::ZONE_WORDS;

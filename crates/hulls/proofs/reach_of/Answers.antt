@@ -1,7 +1,5 @@
-use Rattle.std.proofs.Common.{◌≡◌, ◌∙◌, ◌+◌, ◌*◌, arith, rules}
+use Rattle.std.proofs.Common.{◌≡◌, arith, rules}
 use Rattle.hulls.proofs.Hulls.{covers_none, covers_more}
-use Rattle.signed.proofs.Machine.{back}
-use Rattle.words.specs.Words.{word}
 use Rattle.hulls.proofs.reach_of.Goals as goal
 
 pub loop-j-init : goal.loop-j-init
@@ -47,8 +45,8 @@ loop-j-preserved c =
     let j = c.loop-j.j in (
       omega arith,
       covers_more _ _ _ _ ws at j c.loop-j.invariant.1
-          (back (search rules) ∙ rw (back {z = word ws (at + j * 6)} (record { sfits = c.greater-arg-1.given })) at c.greater-start.ensures)
-          (back (search rules) ∙ rw (back {z = word ws (at + j * 6 + 1)} (record { sfits = c.greater-arg-in-loop-j-1.given })) at c.greater-nstart.ensures),
+          (search rules)
+          (search rules),
     )
 
 pub returns : goal.returns
