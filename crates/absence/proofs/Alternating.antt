@@ -28,7 +28,7 @@ use Rattle.operators.specs.Listing.{Listing, BuiltAs}
 use Rattle.operators.proofs.Listings.{written_kept, written_alone, sound_one}
 use Rattle.absence.specs.Absence.{parts_each, without, without_each, absent}
 use Rattle.absence.specs.Steps.{Operand}
-use Rattle.absence.proofs.Theorems.{without-well}
+use Rattle.absence.proofs.Theorems.{without_well}
 use Rattle.absence.proofs.Sharing.{share_one, share_puts, parts_each_share}
 
 -- the two slots behind the operand's, either way round
@@ -97,8 +97,8 @@ module _ {ws₀ : List ℤ} {base n i : ℕ} {ws : List ℤ} {here there count :
 
   module _ (l : i < n) where
     -- what the next list is made from
-    pub next-ready : Supply ws here count there 0 × Zones ws (base + i * 6) 1 there × ShareNone (map zone (list_at ws here count))
-    next-ready = (
+    pub next_ready : Supply ws here count there 0 × Zones ws (base + i * 6) 1 there × ShareNone (map zone (list_at ws here count))
+    next_ready = (
       record { list = a.list; slot = record { few = omega arith; room = omega (arith, enough, a.behind.there_to) }; apart = a.behind.apart },
       one_there operand i l,
       a.shared,
@@ -117,21 +117,21 @@ module _ {ws₀ : List ℤ} {base n i : ℕ} {ws : List ℤ} {here there count :
         each_next w = unfold without_each in refl
 
     module _ {vs : List ℤ} (k : Kept there 768 ws vs) where
-      pub alternating-kept : Kept base 2304 ws₀ vs
-      alternating-kept = kept_within (omega arith) (omega arith) (kept_trans a.frame (within a.behind k))
+      pub alternating_kept : Kept base 2304 ws₀ vs
+      alternating_kept = kept_within (omega arith) (omega arith) (kept_trans a.frame (within a.behind k))
 
-      pub alternating-overflow : {P : Type 0} → (without (zone_at ws (base + i * 6)) (list_at ws here count) ≡ overflow) × P → (whole ws₀ base n ≡ overflow) × Free vs base
-      alternating-overflow h = (sym step ∙ ap (λ (r : Built). then r (without_each rest)) h.0, omega (arith, o.room, alternating-kept.same_length))
+      pub alternating_overflow : {P : Type 0} → (without (zone_at ws (base + i * 6)) (list_at ws here count) ≡ overflow) × P → (whole ws₀ base n ≡ overflow) × Free vs base
+      alternating_overflow h = (sym step ∙ ap (λ (r : Built). then r (without_each rest)) h.0, omega (arith, o.room, alternating_kept.same_length))
 
-      pub alternating-on : {m : ℕ} → Listing (without (zone_at ws (base + i * 6)) (list_at ws here count)) vs there m → Alternating ws₀ base n (i + 1) vs there here m
-      alternating-on {m} h =
+      pub alternating_on : {m : ℕ} → Listing (without (zone_at ws (base + i * 6)) (list_at ws here count)) vs there m → Alternating ws₀ base n (i + 1) vs there here m
+      alternating_on {m} h =
           record {
             most = omega arith;
             behind = behind_swap a.behind;
             list = record {
               few = h.holds.few;
               room = omega (arith, enough, k.same_length, a.behind.there_to);
-              sound = subst Sound (sym h.holds.zones) (without-well (zone_at ws (base + i * 6)) (list_at ws here count) h.value a.list.sound).proper;
+              sound = subst Sound (sym h.holds.zones) (without_well (zone_at ws (base + i * 6)) (list_at ws here count) h.value a.list.sound).proper;
             };
             shared = subst (λ (L : List Zone). ShareNone (map zone L)) (sym h.holds.zones) (without_share (zone_at ws (base + i * 6)) (list_at ws here count) h.value a.shared);
             frame = kept_trans a.frame (within a.behind k);

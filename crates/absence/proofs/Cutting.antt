@@ -28,7 +28,7 @@ use Rattle.list.proofs.Scan.{nothing_left}
 use Rattle.list.proofs.Slots.{list_at_next}
 use Rattle.growing.specs.declared.Growing.{Growing}
 use Rattle.growing.specs.Growth.{Stands, Begins, NoPair, Growth}
-use Rattle.growing.proofs.Going.{Going, begun_stands, grown_stands, going_start, going_same, going_past, going_on, going-overflow, going_end}
+use Rattle.growing.proofs.Going.{Going, begun_stands, grown_stands, going_start, going_same, going_past, going_on, going_overflow, going_end}
 use Rattle.words.specs.Words.{zone_at}
 use Rattle.pairs.specs.Operands.{Supply}
 use Rattle.pairs.proofs.Zones.{supply_zones, still_zones, proper_there, read_there}
@@ -96,30 +96,30 @@ cutting_start z w g target ws p a = record { most = omega arith; cuttable = prop
 module _ {z w : Zone} {g₀ : Growing} {target : ℕ} {ws₀ : List ℤ} {k : ℕ} {rest : Zone} {ws : List ℤ} {g : Growing} (c : Cutting z w g₀ target ws₀ k rest ws g) where
   module _ (l : k < 6) {r : MaybeZone} (e : r ≡ part rest w (side k)) where
     -- the part at hand comes next
-    part-ahead : parts_on (drop k sides) rest w ≡ (r ∷ []) ++ parts_on (drop (k + 1) sides) (keeping rest w (side k)) w
-    part-ahead = parts_next rest w k l ∙ ap (λ (p : MaybeZone). p ∷ parts_on (drop (k + 1) sides) (keeping rest w (side k)) w) (sym e)
+    part_ahead : parts_on (drop k sides) rest w ≡ (r ∷ []) ++ parts_on (drop (k + 1) sides) (keeping rest w (side k)) w
+    part_ahead = parts_next rest w k l ∙ ap (λ (p : MaybeZone). p ∷ parts_on (drop (k + 1) sides) (keeping rest w (side k)) w) (sym e)
 
     pub listable : Breaks rest w (side k) r → Listable (list_at ws target g.count) r
-    listable b = listable_by {z = rest} {w = w} k c.cuttable _ (parts_on (drop (k + 1) sides) (keeping rest w (side k)) w) c.growable.sound r b (growable_same part-ahead c.growable).shared
+    listable b = listable_by {z = rest} {w = w} k c.cuttable _ (parts_on (drop (k + 1) sides) (keeping rest w (side k)) w) c.growable.sound r b (growable_same part_ahead c.growable).shared
 
     one_proper : Breaks rest w (side k) r → (z : Zone) → Memᴰ (zone z) (r ∷ []) → Proper 0 1_000_000 z
     one_proper b z m = part_listed rest w (side k) c.cuttable b (sym (eq_of_singleton m))
 
     ahead : Going ((r ∷ []) ++ parts_on (drop (k + 1) sides) (keeping rest w (side k)) w) (insert_each (parts z w) (list_at ws₀ target g₀.count)) g₀ (list_at ws₀ target g₀.count) target ws₀ ws g
-    ahead = going_same part-ahead c.going
+    ahead = going_same part_ahead c.going
 
-    pub cutting-overflow : {P : Type 0} → (insert_each (r ∷ []) (list_at ws target g.count) ≡ overflow) × P → (insert_each (parts z w) (list_at ws₀ target g₀.count) ≡ overflow) × P
-    cutting-overflow o = going-overflow (r ∷ []) _ ahead o
+    pub cutting_overflow : {P : Type 0} → (insert_each (r ∷ []) (list_at ws target g.count) ≡ overflow) × P → (insert_each (parts z w) (list_at ws₀ target g₀.count) ≡ overflow) × P
+    cutting_overflow o = going_overflow (r ∷ []) _ ahead o
 
-    pub cutting-on : Breaks rest w (side k) r → {vs : List ℤ} {h : Growing} {next : Zone} → Growth (insert_each (r ∷ []) (list_at ws target g.count)) NoPair g (list_at ws target g.count) vs target h → Kept target 768 ws vs
+    pub cutting_on : Breaks rest w (side k) r → {vs : List ℤ} {h : Growing} {next : Zone} → Growth (insert_each (r ∷ []) (list_at ws target g.count)) NoPair g (list_at ws target g.count) vs target h → Kept target 768 ws vs
         → next ≡ keeping rest w (side k) → KeepsTo rest w (side k) next → Cutting z w g₀ target ws₀ (k + 1) next vs h
-    cutting-on m {vs} {h} b f q n =
+    cutting_on m {vs} {h} b f q n =
         let e = ap (λ (u : Zone). parts_on (drop (k + 1) sides) u w) (sym q) in
         record {
           most = omega arith;
           cuttable = n.cuttable;
           pairs = omega (arith, c.pairs, b.pairs, b.counted);
-          growable = growable_same e (growable_on (r ∷ []) _ (growable_same part-ahead c.growable) (one_proper m) b f);
+          growable = growable_same e (growable_on (r ∷ []) _ (growable_same part_ahead c.growable) (one_proper m) b f);
           going = going_same e (going_on (r ∷ []) _ ahead b f);
         }
 
@@ -146,15 +146,15 @@ begun_supply {ws} {source} {n} {target} b s = subst (Supply ws source n target) 
 
 pub begun_growable : {ws : List ℤ} {target : ℕ} {g : Growing} {todo : List MaybeZone} → Begins 0 g → Slot ws target 0 → ShareNone todo → Growable ws target g todo
 begun_growable {ws} {target} {g} {todo} b s h =
-    let none = sym (begun-none ws target b) in
+    let none = sym (begun_none ws target b) in
     record {
       stands = begun_stands b s;
       sound = subst Sound none (λ z m. absurd (not-nil m));
       shared = subst (λ (L : List Zone). ShareNone (map zone L ++ todo)) none h;
     }
   where
-    begun-none : (ws : List ℤ) (target : ℕ) {g : Growing} → Begins 0 g → list_at ws target g.count ≡ []
-    begun-none ws target b = ap (list_at ws target) b.count ∙ (unfold list_at in refl)
+    begun_none : (ws : List ℤ) (target : ℕ) {g : Growing} → Begins 0 g → list_at ws target g.count ≡ []
+    begun_none ws target b = ap (list_at ws target) b.count ∙ (unfold list_at in refl)
 
 pub replacing_start : (w : Zone) (source n : ℕ) (g : Growing) (target : ℕ) (ws : List ℤ) → Growable ws target g (parts_each w (list_at ws source n)) → Replacing w source n g target ws 0 ws g
 replacing_start w source n g target ws a =
@@ -165,37 +165,37 @@ replacing_start w source n g target ws a =
 module _ {w : Zone} {source n : ℕ} {g₀ : Growing} {target : ℕ} {ws₀ : List ℤ} {i : ℕ} {ws : List ℤ} {g : Growing} (c : Replacing w source n g₀ target ws₀ i ws g) where
   module _ (s : Supply ws₀ source n target g₀.count) (l : i < n) where
     -- the zone at hand can be read
-    pub replacing-there : source + i * 6 + 6 ≤ length ws
-    replacing-there = omega (arith, (still_zones (supply_zones s) c.going.frame).room)
+    pub replacing_there : source + i * 6 + 6 ≤ length ws
+    replacing_there = omega (arith, (still_zones (supply_zones s) c.going.frame).room)
 
     module _ {u : Zone} (e : u ≡ zone_at ws (source + i * 6)) where
-      at-hand : u ≡ zone_at ws₀ (source + i * 6)
-      at-hand = e ∙ read_there (supply_zones s) i l c.going.frame
+      at_hand : u ≡ zone_at ws₀ (source + i * 6)
+      at_hand = e ∙ read_there (supply_zones s) i l c.going.frame
 
-      pub replacing-proper : Proper 0 1_000_000 u
-      replacing-proper = subst (Proper 0 1_000_000) (sym at-hand) (proper_there (supply_zones s) i l)
+      pub replacing_proper : Proper 0 1_000_000 u
+      replacing_proper = subst (Proper 0 1_000_000) (sym at_hand) (proper_there (supply_zones s) i l)
 
-      zone-ahead : parts_each w (list_at ws₀ (source + i * 6) (n - i)) ≡ parts u w ++ parts_each w (list_at ws₀ (source + (i + 1) * 6) (n - (i + 1)))
-      zone-ahead = ap (parts_each w) (list_at_next ws₀ source n i l) ∙ each_next (zone_at ws₀ (source + i * 6)) ∙ ap (λ (v : Zone). parts v w ++ parts_each w (list_at ws₀ (source + (i + 1) * 6) (n - (i + 1)))) (sym at-hand)
+      zone_ahead : parts_each w (list_at ws₀ (source + i * 6) (n - i)) ≡ parts u w ++ parts_each w (list_at ws₀ (source + (i + 1) * 6) (n - (i + 1)))
+      zone_ahead = ap (parts_each w) (list_at_next ws₀ source n i l) ∙ each_next (zone_at ws₀ (source + i * 6)) ∙ ap (λ (v : Zone). parts v w ++ parts_each w (list_at ws₀ (source + (i + 1) * 6) (n - (i + 1)))) (sym at_hand)
         where
           each_next : (z : Zone) → parts_each w (z ∷ list_at ws₀ (source + (i + 1) * 6) (n - (i + 1))) ≡ parts z w ++ parts_each w (list_at ws₀ (source + (i + 1) * 6) (n - (i + 1)))
           each_next z = unfold parts_each in refl
 
-      pub replacing-growable : Growable ws target g (parts u w)
-      replacing-growable = growable_front (parts u w) _ (growable_same zone-ahead c.growable)
+      pub replacing_growable : Growable ws target g (parts u w)
+      replacing_growable = growable_front (parts u w) _ (growable_same zone_ahead c.growable)
 
       next : Going (parts u w ++ parts_each w (list_at ws₀ (source + (i + 1) * 6) (n - (i + 1)))) (insert_each (parts_each w (list_at ws₀ source n)) (list_at ws₀ target g₀.count)) g₀ (list_at ws₀ target g₀.count) target ws₀ ws g
-      next = going_same zone-ahead c.going
+      next = going_same zone_ahead c.going
 
-      pub replacing-overflow : {P : Type 0} → (insert_each (parts u w) (list_at ws target g.count) ≡ overflow) × P → (insert_each (parts_each w (list_at ws₀ source n)) (list_at ws₀ target g₀.count) ≡ overflow) × P
-      replacing-overflow o = going-overflow (parts u w) _ next o
+      pub replacing_overflow : {P : Type 0} → (insert_each (parts u w) (list_at ws target g.count) ≡ overflow) × P → (insert_each (parts_each w (list_at ws₀ source n)) (list_at ws₀ target g₀.count) ≡ overflow) × P
+      replacing_overflow o = going_overflow (parts u w) _ next o
 
-      pub replacing-on : {vs : List ℤ} {h : Growing} → Growth (insert_each (parts u w) (list_at ws target g.count)) NoPair g (list_at ws target g.count) vs target h → Kept target 768 ws vs → Replacing w source n g₀ target ws₀ (i + 1) vs h
-      replacing-on b f =
+      pub replacing_on : {vs : List ℤ} {h : Growing} → Growth (insert_each (parts u w) (list_at ws target g.count)) NoPair g (list_at ws target g.count) vs target h → Kept target 768 ws vs → Replacing w source n g₀ target ws₀ (i + 1) vs h
+      replacing_on b f =
           record {
             most = omega arith;
             pairs = omega (arith, c.pairs, b.pairs, b.counted);
-            growable = growable_on (parts u w) _ (growable_same zone-ahead c.growable) (parts_proper w replacing-proper) b f;
+            growable = growable_on (parts u w) _ (growable_same zone_ahead c.growable) (parts_proper w replacing_proper) b f;
             going = going_on (parts u w) _ next b f;
           }
 

@@ -56,10 +56,10 @@ share_outside z (y ∷ L) B h = test (contains z y) (λ b. ShareNone (map zone (
 
 -- the next one, put last
 share_last : (L : List Zone) (z : Zone) (B : List MaybeZone) → ShareNone (map zone L ++ (zone z ∷ B)) → ShareNone (map zone (L ++ (z ∷ [])) ++ B)
-share_last L z B h = subst ShareNone (sym (ap-append ∙ append_assoc (map zone L) (zone z ∷ []) B)) h
+share_last L z B h = subst ShareNone (sym (ap_append ∙ append_assoc (map zone L) (zone z ∷ []) B)) h
   where
-    ap-append : map zone (L ++ (z ∷ [])) ++ B ≡ (map zone L ++ (zone z ∷ [])) ++ B
-    ap-append = ap (λ (A : List MaybeZone). A ++ B) (map-append zone L (z ∷ []))
+    ap_append : map zone (L ++ (z ∷ [])) ++ B ≡ (map zone L ++ (zone z ∷ [])) ++ B
+    ap_append = ap (λ (A : List MaybeZone). A ++ B) (map-append zone L (z ∷ []))
 
 -- Puts keep it so.
 pub share_puts : {rs : List MaybeZone} (more : List MaybeZone) {L M : List Zone} → Puts rs L M → ShareNone (map zone L ++ (rs ++ more)) → ShareNone (map zone M ++ more)

@@ -63,13 +63,13 @@ module _ (w : Zone) where
   each_proper (z ∷ L) h p m = ⊎_elim (parts_proper w (h z (head refl)) p) (each_proper L (λ v n. h v (tail n)) p) (append_cases (parts z w) m)
 
   module _ (L : List Zone) {M : List Zone} (e : without w L ≡ listed M) where
-    without-lies : (x y : Time) → Lies M x y ↔ (Lies L x y × ¬ In w x y)
+    without_lies : (x y : Time) → Lies M x y ↔ (Lies L x y × ¬ In w x y)
     unfolding without
-    without-lies x y = Iff.trans (built_lies (parts_each w L) e x y) (each_members L x y)
+    without_lies x y = Iff.trans (built_lies (parts_each w L) e x y) (each_members L x y)
 
-    pub without-well : {from to : ℕ} → AllProper from to L → WellFormed from to M
+    pub without_well : {from to : ℕ} → AllProper from to L → WellFormed from to M
     unfolding without
-    without-well h = built_well (parts_each w L) e (each_proper L h)
+    without_well h = built_well (parts_each w L) e (each_proper L h)
 
 -- ---- all of them
 
@@ -83,7 +83,7 @@ unfolding without_each
 without_each_lies [] L {M} e x y = let q : L ≡ M = cc in (λ l. (subst (λ (K : List Zone). Lies K x y) (sym q) l, nothing_lies), λ h. subst (λ (K : List Zone). Lies K x y) q h.0)
 without_each_lies (w ∷ W) L e x y =
     let t = then_parts (without w L) (without_each W) e in
-    let a = without-lies w L t.1 x y in
+    let a = without_lies w L t.1 x y in
     let c = lies_cons w W x y in
     Iff.trans (without_each_lies W t.0 t.2 x y) (
       λ h. let i = a.0 h.0 in (i.0, λ l. ⊎_elim i.1 h.1 (c.0 l)),
@@ -95,7 +95,7 @@ unfolding without_each
 without_each_well {from} {to} [] L {M} h e = let q : L ≡ M = cc in subst (WellFormed from to) q h
 without_each_well (w ∷ W) L h e =
     let t = then_parts (without w L) (without_each W) e in
-    without_each_well W t.0 (without-well w L t.1 h.proper) t.2
+    without_each_well W t.0 (without_well w L t.1 h.proper) t.2
 
 -- ==== The theorems
 

@@ -95,17 +95,17 @@ module _ {causes : List Outcome} {Cause : Outcome → Type 0} where
 
   module _ {Finishes : (zones rounds : ℕ) → Type 0} where
     -- A cause that holds, where none of those before it does, is the call's outcome.
-    pub refused-at : (earlier later : List Outcome) (o : Outcome) → causes ≡ earlier ++ (o ∷ later) → NoneOf Cause earlier → Cause o
+    pub refused_at : (earlier later : List Outcome) (o : Outcome) → causes ≡ earlier ++ (o ∷ later) → NoneOf Cause earlier → Cause o
         → CallAs causes Cause Finishes o
-    refused-at earlier later o e n c = refused (record { earlier = earlier; later = later; place = e; holds = c; none = none_of n })
+    refused_at earlier later o e n c = refused (record { earlier = earlier; later = later; place = e; holds = c; none = none_of n })
 
     -- A call has no two outcomes, where there is one way to finish.
-    pub call-unique : ((z r y s : ℕ) → Finishes z r → Finishes y s → Finished z r ≡ Finished y s)
+    pub call_unique : ((z r y s : ℕ) → Finishes z r → Finishes y s → Finished z r ≡ Finished y s)
         → {o p : Outcome} → CallAs causes Cause Finishes o → CallAs causes Cause Finishes p → o ≡ p
-    call-unique once (refused f) (refused g) = first_unique f g
-    call-unique once (refused f) (accepted n d) = absurd (not_refused n f)
-    call-unique once (accepted n d) (refused g) = absurd (not_refused n g)
-    call-unique once (accepted n d) (accepted m e) = once _ _ _ _ d e
+    call_unique once (refused f) (refused g) = first_unique f g
+    call_unique once (refused f) (accepted n d) = absurd (not_refused n f)
+    call_unique once (accepted n d) (refused g) = absurd (not_refused n g)
+    call_unique once (accepted n d) (accepted m e) = once _ _ _ _ d e
 
     -- The number returned is that of a refusal exactly where it is the first cause ..
     pub number_first : {o : Outcome} → CallAs causes Cause Finishes o

@@ -25,7 +25,7 @@ use Rattle.calls.specs.Within.{CallWithin, WithinAs}
 use Rattle.purse.specs.Purse.{Overflowing, Exceeding, Spending}
 use Rattle.delivery.specs.Working.{WorkedAs}
 use Rattle.calls.specs.Steps.{drill_of, outcome_of}
-use Rattle.calls.proofs.Outcomes.{Without, recordings, drills, recording_call, drill_call, drill_none, work-call, overflow-call, spent-call, answer-call, accepted-call}
+use Rattle.calls.proofs.Outcomes.{Without, recordings, drills, recording_call, drill_call, drill_none, work_call, overflow_call, spent_call, answer_call, accepted_call}
 
 -- A call whose outcome leaves both buffers as they were.
 pub untouched : {bytes text : List ℕ} {left : ℕ} {answer work : List ℤ} {o : Outcome} → leaves o ≡ both → CallWithin bytes text left (length answer) (length work) o
@@ -47,25 +47,25 @@ module _ (bytes : List ℕ) (size : Dimensions) (read : ReadingAs largest bytes 
     none = recording_call bytes text left (length answer) (length work) (Recorded size) read
 
     -- A drill that is refused.
-    drill-refused : (o : Outcome) → leaves o ≡ both → 0 < (returned o).number → DrillRefused text size.channels (returned o).number
+    drill_refused : (o : Outcome) → leaves o ≡ both → 0 < (returned o).number → DrillRefused text size.channels (returned o).number
         → WithinAs bytes text left answer work o left answer work
-    drill-refused o e h f = untouched e (drill_call bytes text left (length answer) (length work) none o h (rw same_channels at f))
+    drill_refused o e h f = untouched e (drill_call bytes text left (length answer) (length work) none o h (rw same_channels at f))
 
     -- What the parser answers is the tree of the drill, or decides the call.
     abbrev pub DrillAs : List ℕ → Drill → Type 0
     DrillAs nodes (Root n) = ParsedAs text size.channels nodes (Root n)
     DrillAs nodes (Refused o) = WithinAs bytes text left answer work o left answer work
 
-    drill-as : (nodes : List ℕ) (p : Parsed) → ParsedAs text size.channels nodes p → DrillAs nodes (drill_of p)
-    drill-as nodes (Root n) h = h
-    drill-as nodes WrongLength h = drill-refused DrillLength refl (omega arith) h
-    drill-as nodes NoForm h = drill-refused DrillForm refl (omega arith) h
-    drill-as nodes WrongLetter h = drill-refused DrillLetter refl (omega arith) h
-    drill-as nodes WrongRange h = drill-refused DrillRange refl (omega arith) h
-    drill-as nodes TooDeep h = drill-refused DrillDepth refl (omega arith) h
+    drill_as : (nodes : List ℕ) (p : Parsed) → ParsedAs text size.channels nodes p → DrillAs nodes (drill_of p)
+    drill_as nodes (Root n) h = h
+    drill_as nodes WrongLength h = drill_refused DrillLength refl (omega arith) h
+    drill_as nodes NoForm h = drill_refused DrillForm refl (omega arith) h
+    drill_as nodes WrongLetter h = drill_refused DrillLetter refl (omega arith) h
+    drill_as nodes WrongRange h = drill_refused DrillRange refl (omega arith) h
+    drill_as nodes TooDeep h = drill_refused DrillDepth refl (omega arith) h
 
-    pub drill-read : (nodes : List ℕ) (p : Parsed) {d k : Drill} → ParsedAs text size.channels nodes p → d ≡ drill_of p → d ≡ k → DrillAs nodes k
-    drill-read nodes p h e f = subst (DrillAs nodes) (sym e ∙ f) (drill-as nodes p h)
+    pub drill_read : (nodes : List ℕ) (p : Parsed) {d k : Drill} → ParsedAs text size.channels nodes p → d ≡ drill_of p → d ≡ k → DrillAs nodes k
+    drill_read nodes p h e f = subst (DrillAs nodes) (sym e ∙ f) (drill_as nodes p h)
 
     -- A drill that is accepted and worked out.
     module _ {e : Expression} (a : Accepted text size.channels e) where
@@ -87,13 +87,13 @@ module _ (bytes : List ℕ) (size : Dimensions) (read : ReadingAs largest bytes 
 
       pub found : (w : Worked) {left' : ℕ} {answer' work' : List ℤ} → WorkedAs (Evaluates (Shows bytes) 0 size.ticks e) left w left' answer work answer' work'
           → WithinAs bytes text left answer work (outcome_of w) left' answer' work'
-      found WorkShort h = record { outcome = work-call bytes text _ _ _ ruled_out h.0; buffers = h.2; rounds = h.1 }
-      found Overflow h = record { outcome = overflow-call bytes text _ _ _ ruled_out h.0 (overflowing h.1); buffers = h.3; rounds = spending h.2 }
-      found RoundsSpent h = record { outcome = spent-call bytes text _ _ _ ruled_out h.0 (exceeding h.1); buffers = h.3; rounds = spending h.2 }
+      found WorkShort h = record { outcome = work_call bytes text _ _ _ ruled_out h.0; buffers = h.2; rounds = h.1 }
+      found Overflow h = record { outcome = overflow_call bytes text _ _ _ ruled_out h.0 (overflowing h.1); buffers = h.3; rounds = spending h.2 }
+      found RoundsSpent h = record { outcome = spent_call bytes text _ _ _ ruled_out h.0 (exceeding h.1); buffers = h.3; rounds = spending h.2 }
       found AnswerShort h =
           let s = h.1.0 in
           record {
-            outcome = answer-call bytes text _ _ _ ruled_out h.0 (comes (value s.0 s.1) s.2) h.1.1 s.3;
+            outcome = answer_call bytes text _ _ _ ruled_out h.0 (comes (value s.0 s.1) s.2) h.1.1 s.3;
             buffers = h.3;
             rounds = spending h.2;
           }
@@ -102,7 +102,7 @@ module _ (bytes : List ℕ) (size : Dimensions) (read : ReadingAs largest bytes 
           let c = comes (value f.list rounds) f.means in
           record {
             outcome = subst (λ (k : ℕ). CallWithin bytes text left (length answer) (length work) (Finished k rounds)) f.count
-                (accepted-call bytes text _ _ _ ruled_out h.0 c h.1.1 (omega (arith, h.1.0, f.count)));
+                (accepted_call bytes text _ _ _ ruled_out h.0 c h.1.1 (omega (arith, h.1.0, f.count)));
             buffers = record {
               finishes = record { list = f.list; means = c; count = f.count };
               answer_filled = h.3.answer_filled;

@@ -24,7 +24,7 @@ use Rattle.calls.specs.Causes.{CallAs.accepted}
 use Rattle.calls.specs.Outcome.{Outcome, RecordingLength, RecordingHead, RecordingChange, DrillLength, DrillForm, DrillLetter, DrillRange, DrillDepth, WorkShort, Overflow, AnswerShort, RoundsSpent, Finished, returned, both, answer-buffer, leaves, Comes, largest, room, NoRoom, refusals}
 use Rattle.calls.specs.Within.{CauseWithin, refusals_within, CallWithin}
 use Rattle.purse.specs.Purse.{Overflowing, Exceeding}
-use Rattle.calls.proofs.Causes.{NoneOf, none, ◌also◌, none_of, none_append, refused-at}
+use Rattle.calls.proofs.Causes.{NoneOf, none, ◌also◌, none_of, none_append, refused_at}
 use Rattle.calls.proofs.Comes.{comes_unique}
 use Rattle.calls.proofs.Rounds.{most_rounds, comes_few}
 use Rattle.meaning.proofs.Finite.{recording_finite}
@@ -67,17 +67,17 @@ module _ (bytes text : List ℕ) (left answer work : ℕ) where
 
   -- What reading the recording answers decides the call, or rules out 1 to 3.
   pub recording_call : (a : Reading) → ReadingAs largest bytes a → RecordingCall a
-  recording_call WrongLength r = refused-at [] _ RecordingLength refl none r.holds
-  recording_call WrongHead r = refused-at (RecordingLength ∷ []) _ RecordingHead refl (r.first 1 (omega arith) also none) r.holds
+  recording_call WrongLength r = refused_at [] _ RecordingLength refl none r.holds
+  recording_call WrongHead r = refused_at (RecordingLength ∷ []) _ RecordingHead refl (r.first 1 (omega arith) also none) r.holds
   recording_call WrongChange r =
-      refused-at (RecordingLength ∷ RecordingHead ∷ []) _ RecordingChange refl (r.first 1 (omega arith) also r.first 2 (omega arith) also none) r.holds
+      refused_at (RecordingLength ∷ RecordingHead ∷ []) _ RecordingChange refl (r.first 1 (omega arith) also r.first 2 (omega arith) also none) r.holds
   recording_call (Recorded size) r = r.0 1 also r.0 2 also r.0 3 also none
 
   -- ---- the drill
 
   after_recordings : Without recordings → (earlier later : List Outcome) (o : Outcome) → refusals_within ≡ recordings ++ (earlier ++ (o ∷ later)) → Without earlier
       → CauseWithin bytes text left answer work o → CallWithin bytes text left answer work o
-  after_recordings n earlier later o e m c = refused-at (recordings ++ earlier) later o e (none_append n m) c
+  after_recordings n earlier later o e m c = refused_at (recordings ++ earlier) later o e (none_append n m) c
 
   drill_first : Without recordings → (n : ℕ) → DrillCause text (channels bytes) n → ((m : ℕ) → m < n → ¬ DrillCause text (channels bytes) m)
       → (o : Outcome) × ((returned o).number ≡ n) × (leaves o ≡ both) × CallWithin bytes text left answer work o
@@ -116,32 +116,32 @@ module _ (bytes text : List ℕ) (left answer work : ℕ) where
   -- ---- the buffers
 
   module _ (before : Without (recordings ++ drills)) where
-    pub work-call : work < room → CallWithin bytes text left answer work WorkShort
-    work-call h = refused-at (recordings ++ drills) _ WorkShort refl before h
+    pub work_call : work < room → CallWithin bytes text left answer work WorkShort
+    work_call h = refused_at (recordings ++ drills) _ WorkShort refl before h
 
     module _ (enough : room ≤ work) where
       roomy : Without (recordings ++ (drills ++ (WorkShort ∷ [])))
       roomy = none_append before ((λ h. omega arith) also none)
 
-      pub overflow-call : Overflowing (Comes bytes text) left → CallWithin bytes text left answer work Overflow
-      overflow-call o = refused-at (recordings ++ (drills ++ (WorkShort ∷ []))) _ Overflow refl roomy o
+      pub overflow_call : Overflowing (Comes bytes text) left → CallWithin bytes text left answer work Overflow
+      overflow_call o = refused_at (recordings ++ (drills ++ (WorkShort ∷ []))) _ Overflow refl roomy o
 
       -- 10 and 13 exclude each other
       not_both : Exceeding (Comes bytes text) left → ¬ Overflowing (Comes bytes text) left
       not_both x o = let e = ap begun (comes_unique x.means o.means) in omega (arith, x.beyond, o.within)
 
-      pub spent-call : Exceeding (Comes bytes text) left → CallWithin bytes text left answer work RoundsSpent
-      spent-call x = refused-at (recordings ++ (drills ++ (WorkShort ∷ Overflow ∷ []))) _ RoundsSpent refl (none_append roomy (not_both x also none)) x
+      pub spent_call : Exceeding (Comes bytes text) left → CallWithin bytes text left answer work RoundsSpent
+      spent_call x = refused_at (recordings ++ (drills ++ (WorkShort ∷ Overflow ∷ []))) _ RoundsSpent refl (none_append roomy (not_both x also none)) x
 
       module _ {L : List Zone} {r : ℕ} (comes : Comes bytes text (value L r)) (within : r ≤ left) where
         listed : Without (recordings ++ (drills ++ (WorkShort ∷ Overflow ∷ RoundsSpent ∷ [])))
         listed = none_append roomy ((λ o. clash (comes_unique comes o.means)) also (λ x. let e = ap begun (comes_unique comes x.means) in omega (arith, x.beyond)) also none)
 
-        pub answer-call : answer < length L * zone_words → CallWithin bytes text left answer work AnswerShort
-        answer-call h = refused-at (recordings ++ (drills ++ (WorkShort ∷ Overflow ∷ RoundsSpent ∷ []))) _ AnswerShort refl listed (L, r, comes, h)
+        pub answer_call : answer < length L * zone_words → CallWithin bytes text left answer work AnswerShort
+        answer_call h = refused_at (recordings ++ (drills ++ (WorkShort ∷ Overflow ∷ RoundsSpent ∷ []))) _ AnswerShort refl listed (L, r, comes, h)
 
-        pub accepted-call : length L * zone_words ≤ answer → CallWithin bytes text left answer work (Finished (length L) r)
-        accepted-call h =
+        pub accepted_call : length L * zone_words ≤ answer → CallWithin bytes text left answer work (Finished (length L) r)
+        accepted_call h =
             accepted (none_of (none_append listed (long also none)))
             (record { list = L; means = comes; count = refl })
           where
@@ -163,15 +163,15 @@ module _ (bytes text : List ℕ) (left answer work : ℕ) where
     where
       finish : Without (recordings ++ drills) → room ≤ work → (v : Value) → begun v ≤ most_rounds → Comes bytes text v → Some
       finish n h (overflow b f) few c = elim (dec_le b left) [
-        | yes k ↦ (Overflow, overflow-call n h (record { opened = b; done = f; means = c; within = k }), λ e. absurd (omega arith), inr (inl (refl, overflow b f, c)))
-        | no k ↦ (RoundsSpent, spent-call n h (record { whole = overflow b f; means = c; beyond = omega arith }), λ _. omega arith, inr (inl (refl, overflow b f, c)))
+        | yes k ↦ (Overflow, overflow_call n h (record { opened = b; done = f; means = c; within = k }), λ e. absurd (omega arith), inr (inl (refl, overflow b f, c)))
+        | no k ↦ (RoundsSpent, spent_call n h (record { whole = overflow b f; means = c; beyond = omega arith }), λ _. omega arith, inr (inl (refl, overflow b f, c)))
       ]
       finish n h (value L r) few c = elim (dec_le r left) [
         | yes k ↦ elim (dec_le (length L * zone_words) answer) [
-          | yes l ↦ (Finished (length L) r, accepted-call n h c k l, λ e. absurd (omega arith), inr (inr (length L, r, refl)))
-          | no l ↦ (AnswerShort, answer-call n h c k (omega arith), λ e. absurd (omega arith), inr (inl (refl, value L r, c)))
+          | yes l ↦ (Finished (length L) r, accepted_call n h c k l, λ e. absurd (omega arith), inr (inr (length L, r, refl)))
+          | no l ↦ (AnswerShort, answer_call n h c k (omega arith), λ e. absurd (omega arith), inr (inl (refl, value L r, c)))
         ]
-        | no k ↦ (RoundsSpent, spent-call n h (record { whole = value L r; means = c; beyond = omega arith }), λ _. omega arith, inr (inl (refl, value L r, c)))
+        | no k ↦ (RoundsSpent, spent_call n h (record { whole = value L r; means = c; beyond = omega arith }), λ _. omega arith, inr (inl (refl, value L r, c)))
       ]
 
       given : Without recordings → 0 < ticks bytes → ticks bytes ≤ 1_000_000 → (e : Expression) → Accepted text (channels bytes) e → Some
@@ -180,7 +180,7 @@ module _ (bytes text : List ℕ) (left answer work : ℕ) where
             let v = evaluates_exists (recording_finite bytes 0 (ticks bytes)) some e in
             let c : Comes bytes text v.0 = record { drill = e; form = a.form; evaluates = v.1 } in
             finish (drill_none n a) h v.0 (comes_few some short (a.none 8) c) c
-        | no h ↦ (WorkShort, work-call (drill_none n a) (omega arith), λ e. absurd (omega arith), inl refl)
+        | no h ↦ (WorkShort, work_call (drill_none n a) (omega arith), λ e. absurd (omega arith), inl refl)
       ]
 
       read : (a : Reading) → ReadingAs largest bytes a → Some

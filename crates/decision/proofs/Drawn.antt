@@ -28,7 +28,7 @@ use Rattle.meaning.proofs.Meaning.{satisfies_forward}
 use Rattle.meaning.proofs.Evaluation.{FiniteVariability}
 use Rattle.meaning.proofs.Members.{lies_inside, runs_members, events_members, range_band_lem, pieces_iff}
 use Rattle.decision.specs.Drawn.{Drawn}
-use Rattle.decision.proofs.Unions.{single_proper, map_lies, map_proper, zones_of, zones_of_proper, answer_lies, append_lies, append_proper, all_meets, all_meets_lies, all-meets-proper, all_compositions, all-compositions-lies, all-compositions-proper, complement, complement_lies, complement_proper}
+use Rattle.decision.proofs.Unions.{single_proper, map_lies, map_proper, zones_of, zones_of_proper, answer_lies, append_lies, append_proper, all_meets, all_meets_lies, all_meets_proper, all_compositions, all_compositions_lies, all_compositions_proper, complement, complement_lies, complement_proper}
 use Rattle.decision.proofs.Repetition.{repetition, repetition_lies, repetition_proper}
 
 module _ {from to : ℕ} where
@@ -71,7 +71,7 @@ module _ {from to : ℕ} where
     both =
         record {
           zones = all_meets a.zones b.zones;
-          proper = all-meets-proper a.zones b.zones a.proper;
+          proper = all_meets_proper a.zones b.zones a.proper;
           exact = λ x y s. let i = a.exact x y s in
               let j = b.exact x y s in
               Iff.trans (all_meets_lies a.zones b.zones x y) (λ l. (i.0 l.0, j.0 l.1), λ h. (i.1 h.0, j.1 h.1));
@@ -82,8 +82,8 @@ module _ {from to : ℕ} where
     cut =
         record {
           zones = all_compositions a.zones b.zones;
-          proper = all-compositions-proper a.zones b.zones a.proper b.proper;
-          exact = λ x y s. Iff.trans (all-compositions-lies a.zones b.zones a.proper b.proper x y) (
+          proper = all_compositions_proper a.zones b.zones a.proper b.proper;
+          exact = λ x y s. Iff.trans (all_compositions_lies a.zones b.zones a.proper b.proper x y) (
             λ l. let i = lies_inside a.proper l.1 in
                 let j = lies_inside b.proper l.2 in
                 (l.0, i.1, j.1, (a.exact x l.0 i).0 l.1, (b.exact l.0 y j).0 l.2),

@@ -28,7 +28,7 @@ use Rattle.pairs.proofs.Pairs.{pairs_mem, mem_pairs}
 use Rattle.absence.proofs.Theorems.{lies_cons}
 use Rattle.star.specs.Pieces.{Pieces, Pieces.none}
 use Rattle.star.proofs.Composed.{Composed, Composed.single, Composed.extend, composed_proper, step}
-use Rattle.star.proofs.Bound.{composed-bound}
+use Rattle.star.proofs.Bound.{composed_bound}
 use Rattle.star.proofs.Members.{composed_pieces, pieces_composed}
 use Rattle.decision.proofs.Unions.{of_mem, mem_of, all_compositions}
 
@@ -63,8 +63,8 @@ module _ {inner : List Zone} where
 
   module _ {from to : ℕ} (proper : AllProper from to inner) where
     -- all of them are proper
-    upto-proper : (k : ℕ) → AllProper from to (upto inner k)
-    upto-proper k z m = composed_proper proper (made k m).1
+    upto_proper : (k : ℕ) → AllProper from to (upto inner k)
+    upto_proper k z m = composed_proper proper (made k m).1
 
     -- a composition of at most one zone more than n + (to − from) lies inside one of at most n + (to − from)
     one_more : {j : ℕ} {x : Zone} → Composed inner j x → j ≤ suc (length inner + (to - from)) → Covered x (upto inner (length inner + (to - from)))
@@ -74,15 +74,15 @@ module _ {inner : List Zone} where
         go true e = (covered_is x (upto inner (length inner + (to - from)))).0 (subst T (sym e) tt)
         go false e =
             let k = length inner + (to - from) in
-            let b = composed-bound proper j x (λ i t ot lt w. subst T e ((covered_is x (upto inner k)).1 (t, reached k ot (omega arith), w))) o in
+            let b = composed_bound proper j x (λ i t ot lt w. subst T e ((covered_is x (upto inner k)).1 (t, reached k ot (omega arith), w))) o in
             (x, reached k o b, contains_refl x)
 
     -- so does a composition of however many
-    any-number : {j : ℕ} {x : Zone} → Composed inner j x → Covered x (upto inner (length inner + (to - from)))
-    any-number (single m) = one_more (single m) (omega arith)
-    any-number (extend o m e) =
+    any_number : {j : ℕ} {x : Zone} → Composed inner j x → Covered x (upto inner (length inner + (to - from)))
+    any_number (single m) = one_more (single m) (omega arith)
+    any_number (extend o m e) =
         let k = length inner + (to - from) in
-        step proper o m e (any-number o) (upto-proper k)
+        step proper o m e (any_number o) (upto_proper k)
         (λ v n. let p = pairs_mem Compose (upto inner k) inner n in
         let b = made k p.2 in
         one_more (extend b.1 p.3 p.4) (let h = b.2 in omega arith))
@@ -100,10 +100,10 @@ module _ {from to : ℕ} (A : List Zone) (proper : AllProper from to A) where
       let d = diagonal_members from to x y in
       Iff.trans (lies_cons (diagonal from to) (upto A k) x y) (
         ⊎_elim (λ i. (0, none (d.0 i).1)) (λ l. let m = made k l.among in (m.0, composed_pieces proper m.1 x y l.member)),
-        λ p. ⊎_map (λ e. d.1 (s.0, e, s.2)) (λ c. covered_lies (any-number proper c.2) c.3) (pieces_composed proper p.1),
+        λ p. ⊎_map (λ e. d.1 (s.0, e, s.2)) (λ c. covered_lies (any_number proper c.2) c.3) (pieces_composed proper p.1),
       )
 
   pub repetition_proper : from ≤ to → AllProper from to (repetition from to A)
   unfolding repetition
   repetition_proper h z m =
-      ⊎_elim (λ e. subst (Proper from to) (sym e) (proper_diagonal from to h)) (upto-proper proper (length A + (to - from)) z) (cases_cons m)
+      ⊎_elim (λ e. subst (Proper from to) (sym e) (proper_diagonal from to h)) (upto_proper proper (length A + (to - from)) z) (cases_cons m)

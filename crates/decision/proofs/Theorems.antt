@@ -42,31 +42,31 @@ module _ (Shows : ℕ → Level → ℕ → Type 0) {from to : ℕ} where
     drawn = zones.drawn Shows finite order
 
     -- .. so it is decided whether a stretch fits ..
-    pub fits-on? : (e : Expression) (x y : Time) → Dec (FitsOn Shows from to e x y)
-    fits-on? e x y = drawn_decides (drawn e) x y
+    pub fits_on? : (e : Expression) (x y : Time) → Dec (FitsOn Shows from to e x y)
+    fits_on? e x y = drawn_decides (drawn e) x y
 
     -- .. and "an absent drill and the drill itself together fit every stretch"
-    pub absent-together-on : (e : Expression) (x y : Time) → Stretch from to x y → FitsOn Shows from to e x y ⊎ FitsOn Shows from to (unary Absence e) x y
-    absent-together-on e x y s = go (fits-on? e x y)
+    pub absent_together_on : (e : Expression) (x y : Time) → Stretch from to x y → FitsOn Shows from to e x y ⊎ FitsOn Shows from to (unary Absence e) x y
+    absent_together_on e x y s = go (fits_on? e x y)
       where
         go : Dec (FitsOn Shows from to e x y) → FitsOn Shows from to e x y ⊎ FitsOn Shows from to (unary Absence e) x y
         go (yes h) = inl h
         go (no n) = inr (s, (s.1, λ h. n (s, h)))
 
     -- so what is absent twice is there
-    pub absent-twice-on : (e : Expression) (x y : Time) → FitsOn Shows from to (unary Absence (unary Absence e)) x y ↔ FitsOn Shows from to e x y
-    absent-twice-on e x y = (λ h. ⊎_elim (λ k. k) (λ k. absurd (absent_apart_on (unary Absence e) x y k h)) (absent-together-on e x y h.0), λ h. (h.0, (h.0.1, λ k. k.1 h.1)))
+    pub absent_twice_on : (e : Expression) (x y : Time) → FitsOn Shows from to (unary Absence (unary Absence e)) x y ↔ FitsOn Shows from to e x y
+    absent_twice_on e x y = (λ h. ⊎_elim (λ k. k) (λ k. absurd (absent_apart_on (unary Absence e) x y k h)) (absent_together_on e x y h.0), λ h. (h.0, (h.0.1, λ k. k.1 h.1)))
 
 -- ==== 2. On a recording
 
 module _ (bytes : List ℕ) (e : Expression) (x y : Time) where
   -- Whether a stretch fits a drill is decided, of any bytes and any expression.
   pub fits? : Dec (Fits bytes e x y)
-  fits? = fits-on? (Shows bytes) (recording_finite bytes 0 (ticks bytes)) (omega arith) e x y
+  fits? = fits_on? (Shows bytes) (recording_finite bytes 0 (ticks bytes)) (omega arith) e x y
 
   -- "An absent drill and the drill itself together fit every stretch ..
   pub absent_together : Stretch 0 (ticks bytes) x y → Fits bytes e x y ⊎ Fits bytes (unary Absence e) x y
-  absent_together = absent-together-on (Shows bytes) (recording_finite bytes 0 (ticks bytes)) (omega arith) e x y
+  absent_together = absent_together_on (Shows bytes) (recording_finite bytes 0 (ticks bytes)) (omega arith) e x y
 
   -- .. and share none"
   pub absent_apart : Fits bytes e x y → ¬ Fits bytes (unary Absence e) x y
@@ -74,4 +74,4 @@ module _ (bytes : List ℕ) (e : Expression) (x y : Time) where
 
   -- What is absent twice is there.
   pub absent_twice : Fits bytes (unary Absence (unary Absence e)) x y ↔ Fits bytes e x y
-  absent_twice = absent-twice-on (Shows bytes) (recording_finite bytes 0 (ticks bytes)) (omega arith) e x y
+  absent_twice = absent_twice_on (Shows bytes) (recording_finite bytes 0 (ticks bytes)) (omega arith) e x y

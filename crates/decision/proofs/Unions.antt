@@ -109,16 +109,16 @@ module _ (A B : List Zone) where
   all_meets_lies x y = Iff.trans (zones_of_lies (pairs Meet A B) x y) (offered_meets A B x y)
 
   module _ {from to : ℕ} (a : AllProper from to A) where
-    pub all-meets-proper : AllProper from to (all_meets A B)
-    all-meets-proper = zones_of_proper (pairs Meet A B) (λ z m. let p = pairs_mem Meet A B m in proper_meet p.1 (a p.0 p.2) p.4)
+    pub all_meets_proper : AllProper from to (all_meets A B)
+    all_meets_proper = zones_of_proper (pairs Meet A B) (λ z m. let p = pairs_mem Meet A B m in proper_meet p.1 (a p.0 p.2) p.4)
 
     module _ (b : AllProper from to B) where
       -- the stretches with some cut
-      pub all-compositions-lies : (x y : Time) → Lies (all_compositions A B) x y ↔ ((t : Time) × Lies A x t × Lies B t y)
-      all-compositions-lies x y = Iff.trans (zones_of_lies (pairs Compose A B) x y) (offered_compositions A B x y a b)
+      pub all_compositions_lies : (x y : Time) → Lies (all_compositions A B) x y ↔ ((t : Time) × Lies A x t × Lies B t y)
+      all_compositions_lies x y = Iff.trans (zones_of_lies (pairs Compose A B) x y) (offered_compositions A B x y a b)
 
-      pub all-compositions-proper : AllProper from to (all_compositions A B)
-      all-compositions-proper =
+      pub all_compositions_proper : AllProper from to (all_compositions A B)
+      all_compositions_proper =
           zones_of_proper (pairs Compose A B) (λ z m. let p = pairs_mem Compose A B m in proper_compose (a p.0 p.2) (b p.1 p.3) p.4)
 
 -- ---- `~`: all stretches less those of each zone

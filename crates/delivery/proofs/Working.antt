@@ -43,8 +43,8 @@ module _ (comes : Value → Type 0) (almost : (v : Value) → comes v → begun 
   worked Spent x e l f g = rw (e, l) (enough, x, spends comes told ws almost Spent x, record { answer_kept = f; work_cleared = g ∙ cleared_kept k few })
   worked (Listed count left) {answer' = answer'} {work' = work'} h e l f g = rw (e, l) (at (leb (count * zone_words) (length answer)) refl f)
     where
-      rounds-are : told - left ≡ h.rounds
-      rounds-are = omega (arith, h.spends)
+      rounds_are : told - left ≡ h.rounds
+      rounds_are = omega (arith, h.spends)
 
       at : (b : Bool) → leb (count * zone_words) (length answer) ≡ b → answer' ≡ cond b (fronted (words (list_at ws 0 count)) answer) answer
           → WorkedAs comes told (cond b (Finished count (told - left)) AnswerShort) left answer work answer' work'
@@ -53,7 +53,7 @@ module _ (comes : Value → Type 0) (almost : (v : Value) → comes v → begun 
         (leb-true (count * zone_words) (length answer) t, omega (arith, h.spends)),
         spends comes told ws almost (Listed count left) h,
         record {
-          finishes = record { list = h.list; means = subst (λ (n : ℕ). comes (value h.list n)) (sym rounds-are) h.means; count = h.holds.count };
+          finishes = record { list = h.list; means = subst (λ (n : ℕ). comes (value h.list n)) (sym rounds_are) h.means; count = h.holds.count };
           answer_filled = q ∙ ap (λ (L : List Zone). fronted (words L) answer) h.holds.zones;
           work_cleared = g ∙ cleared_kept k few;
         },

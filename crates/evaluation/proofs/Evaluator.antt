@@ -48,27 +48,27 @@ rest_few h = omega arith
 
 module _ {d : ℕ} (some : 0 < d) (base : ℕ) where
   module _ {len : ℕ} (room : base + (d + 2) * slot_words ≤ len) where
-    pub room-left : base + (d - 1 + 2) * slot_words ≤ len
-    room-left = omega arith
+    pub room_left : base + (d - 1 + 2) * slot_words ≤ len
+    room_left = omega arith
 
-    pub room-right : base + slot_words + (d - 1 + 2) * slot_words ≤ len
-    room-right = omega arith
+    pub room_right : base + slot_words + (d - 1 + 2) * slot_words ≤ len
+    room_right = omega arith
 
-    pub room-three : base + 3 * slot_words ≤ len
-    room-three = omega arith
+    pub room_three : base + 3 * slot_words ≤ len
+    room_three = omega arith
 
-    pub room-second : base + slot_words + slot_words ≤ len
-    room-second = omega arith
+    pub room_second : base + slot_words + slot_words ≤ len
+    room_second = omega arith
 
   module _ {ws vs : List ℤ} where
-    pub kept-left : Kept base ((d - 1 + 2) * slot_words) ws vs → Kept base ((d + 2) * slot_words) ws vs
-    kept-left k = kept_within (omega arith) (omega arith) k
+    pub kept_left : Kept base ((d - 1 + 2) * slot_words) ws vs → Kept base ((d + 2) * slot_words) ws vs
+    kept_left k = kept_within (omega arith) (omega arith) k
 
-    pub kept-right : Kept (base + slot_words) ((d - 1 + 2) * slot_words) ws vs → Kept base ((d + 2) * slot_words) ws vs
-    kept-right k = kept_within (omega arith) (omega arith) k
+    pub kept_right : Kept (base + slot_words) ((d - 1 + 2) * slot_words) ws vs → Kept base ((d + 2) * slot_words) ws vs
+    kept_right k = kept_within (omega arith) (omega arith) k
 
-    pub kept-three : Kept base (3 * slot_words) ws vs → Kept base ((d + 2) * slot_words) ws vs
-    kept-three k = kept_within (omega arith) (omega arith) k
+    pub kept_three : Kept base (3 * slot_words) ws vs → Kept base ((d + 2) * slot_words) ws vs
+    kept_three k = kept_within (omega arith) (omega arith) k
 
     pub kept_one : Kept base slot_words ws vs → Kept base ((d + 2) * slot_words) ws vs
     kept_one k = kept_within (omega arith) (omega arith) k
@@ -95,8 +95,8 @@ module _ {bytes : List ℕ} {window : Window} (looks : Looks bytes window) where
         (λ z m. proper_within (omega arith) (looks_ticks looks).small ((evaluates_well (Shows bytes) (looks_ticks looks).forward f s.rounds s.means).proper z m))
 
     -- .. as the operators with one operand ask for it, and those with two for the right one ..
-    pub only-operand : base + 3 * slot_words ≤ length ws → OperandAt ws base n
-    only-operand room = record { few = s.holds.few; room = room; sound = operand_sound }
+    pub only_operand : base + 3 * slot_words ≤ length ws → OperandAt ws base n
+    only_operand room = record { few = s.holds.few; room = room; sound = operand_sound }
 
     pub right_operand : base + slot_words ≤ length ws → Source ws base n
     right_operand room = record { few = s.holds.few; room = room; sound = operand_sound }
@@ -106,8 +106,8 @@ module _ {bytes : List ℕ} {window : Window} (looks : Looks bytes window) where
       pub left_there : list_at vs base n ≡ s.list
       left_there = list_at_kept base n k (inl (omega (arith, s.holds.few))) ∙ s.holds.zones
 
-      pub left-operand : base + 3 * slot_words ≤ length ws → OperandAt vs base n
-      left-operand room = record { few = s.holds.few; room = roomy k room; sound = subst Sound (sym (left_there ∙ sym s.holds.zones)) operand_sound }
+      pub left_operand : base + 3 * slot_words ≤ length ws → OperandAt vs base n
+      left_operand room = record { few = s.holds.few; room = roomy k room; sound = subst Sound (sym (left_there ∙ sym s.holds.zones)) operand_sound }
 
   -- ---- no operand
 
@@ -117,43 +117,43 @@ module _ {bytes : List ℕ} {window : Window} (looks : Looks bytes window) where
   -- ---- an operator with one operand
 
   module _ {e : Expression} (f : Expression) (op : Unary) (is : e ≡ unary op f) (told : ℕ) (ws : List ℤ) (base : ℕ) (r : Evaluated) where
-    whole-one : EvaluatedAs (Comes (unary op f)) told ws base r → EvaluatedAs (Comes e) told ws base r
-    whole-one = subst (λ (x : Expression). EvaluatedAs (Comes x) told ws base r) (sym is)
+    whole_one : EvaluatedAs (Comes (unary op f)) told ws base r → EvaluatedAs (Comes e) told ws base r
+    whole_one = subst (λ (x : Expression). EvaluatedAs (Comes x) told ws base r) (sym is)
 
     -- without a list
-    pub one-stops : (us : List ℤ) (at : ℕ) → NoList r → EvaluatedAs (Comes f) told us at r → EvaluatedAs (Comes e) told ws base r
-    one-stops us at k a = whole-one (then_stops (Comes f) (applied window.from window.to op) told (one f) (some (unary op f)) us ws at base r k a)
+    pub one_stops : (us : List ℤ) (at : ℕ) → NoList r → EvaluatedAs (Comes f) told us at r → EvaluatedAs (Comes e) told ws base r
+    one_stops us at k a = whole_one (then_stops (Comes f) (applied window.from window.to op) told (one f) (some (unary op f)) us ws at base r k a)
 
     -- with one
-    pub one-done : {us : List ℤ} {at n left : ℕ} → Standing (Comes f) told us at n left → EvaluatedAs (applied window.from window.to op (list_at us at n)) left ws base r → EvaluatedAs (Comes e) told ws base r
-    one-done {left = left} s a = whole-one (then_goes (Comes f) (applied window.from window.to op) told s.list s.rounds left s.means s.spends ws base r (subst (λ (A : List Zone). EvaluatedAs (applied window.from window.to op A) left ws base r) s.holds.zones a))
+    pub one_done : {us : List ℤ} {at n left : ℕ} → Standing (Comes f) told us at n left → EvaluatedAs (applied window.from window.to op (list_at us at n)) left ws base r → EvaluatedAs (Comes e) told ws base r
+    one_done {left = left} s a = whole_one (then_goes (Comes f) (applied window.from window.to op) told s.list s.rounds left s.means s.spends ws base r (subst (λ (A : List Zone). EvaluatedAs (applied window.from window.to op A) left ws base r) s.holds.zones a))
 
   -- ---- an operator with two operands
 
   module _ {e : Expression} (f g : Expression) (op : Join) (is : e ≡ join op f g) (told : ℕ) (ws : List ℤ) (base : ℕ) (r : Evaluated) where
-    whole-two : EvaluatedAs (Comes (join op f g)) told ws base r → EvaluatedAs (Comes e) told ws base r
-    whole-two = subst (λ (x : Expression). EvaluatedAs (Comes x) told ws base r) (sym is)
+    whole_two : EvaluatedAs (Comes (join op f g)) told ws base r → EvaluatedAs (Comes e) told ws base r
+    whole_two = subst (λ (x : Expression). EvaluatedAs (Comes x) told ws base r) (sym is)
 
     -- the left one without a list
-    pub left-stops : (us : List ℤ) (at : ℕ) → NoList r → EvaluatedAs (Comes f) told us at r → EvaluatedAs (Comes e) told ws base r
-    left-stops us at k a = whole-two (then_stops (Comes f) (λ A. Then (Comes g) (λ B v. v ≡ ended (join_list op A B))) told (one f) (some (join op f g)) us ws at base r k a)
+    pub left_stops : (us : List ℤ) (at : ℕ) → NoList r → EvaluatedAs (Comes f) told us at r → EvaluatedAs (Comes e) told ws base r
+    left_stops us at k a = whole_two (then_stops (Comes f) (λ A. Then (Comes g) (λ B v. v ≡ ended (join_list op A B))) told (one f) (some (join op f g)) us ws at base r k a)
 
     module _ {us : List ℤ} {at n left : ℕ} (s : Standing (Comes f) told us at n left) where
       -- what comes of the right one, the left list being there
       abbrev Next : List Zone → Value → Type 0
       Next B v = v ≡ ended (join_list op s.list B)
 
-      after-left : EvaluatedAs (Then (Comes g) Next) left ws base r → EvaluatedAs (Comes e) told ws base r
-      after-left a = whole-two (then_goes (Comes f) (λ A. Then (Comes g) (λ B v. v ≡ ended (join_list op A B))) told s.list s.rounds left s.means s.spends ws base r a)
+      after_left : EvaluatedAs (Then (Comes g) Next) left ws base r → EvaluatedAs (Comes e) told ws base r
+      after_left a = whole_two (then_goes (Comes f) (λ A. Then (Comes g) (λ B v. v ≡ ended (join_list op A B))) told s.list s.rounds left s.means s.spends ws base r a)
 
       -- the right one without a list
-      pub right-stops : (vs : List ℤ) (next : ℕ) → NoList r → EvaluatedAs (Comes g) left vs next r → EvaluatedAs (Comes e) told ws base r
-      right-stops vs next k a = after-left (then_stops (Comes g) Next left (one g) (then_some (some g) (λ B q _. (ended (join_list op s.list B), refl))) vs ws next base r k a)
+      pub right_stops : (vs : List ℤ) (next : ℕ) → NoList r → EvaluatedAs (Comes g) left vs next r → EvaluatedAs (Comes e) told ws base r
+      right_stops vs next k a = after_left (then_stops (Comes g) Next left (one g) (then_some (some g) (λ B q _. (ended (join_list op s.list B), refl))) vs ws next base r k a)
 
       -- both with one
-      pub two-done : {vs : List ℤ} {next m end : ℕ} → Standing (Comes g) left vs next m end → {A : List Zone} → A ≡ s.list
+      pub two_done : {vs : List ℤ} {next m end : ℕ} → Standing (Comes g) left vs next m end → {A : List Zone} → A ≡ s.list
           → EvaluatedAs (λ v. v ≡ ended (join_list op A (list_at vs next m))) end ws base r → EvaluatedAs (Comes e) told ws base r
-      two-done {vs} {next} {m} {end} t p a =
-          after-left (then_goes (Comes g) Next left t.list t.rounds end t.means t.spends ws base r
+      two_done {vs} {next} {m} {end} t p a =
+          after_left (then_goes (Comes g) Next left t.list t.rounds end t.means t.spends ws base r
           (subst (λ (B : List Zone). EvaluatedAs (Next B) end ws base r) t.holds.zones
           (subst (λ (A : List Zone). EvaluatedAs (λ v. v ≡ ended (join_list op A (list_at vs next m))) end ws base r) p a)))

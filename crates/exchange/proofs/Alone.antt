@@ -10,7 +10,7 @@ use lib.ListN.{length, get_or}
 use Rattle.outcome.proofs.Numbers.{zero_finished}
 use Rattle.calls.specs.Outcome.{Outcome, returned, front_of, FindAs}
 use Rattle.calls.specs.Within.{CallWithin, WithinAs}
-use Rattle.calls.proofs.Causes.{call-unique}
+use Rattle.calls.proofs.Causes.{call_unique}
 use Rattle.calls.proofs.Comes.{comes_unique, finishes_once}
 use Rattle.finder.proofs.Calls.{front_call}
 use Rattle.finder.proofs.Unstopped.{not_stopped}
@@ -28,7 +28,7 @@ sheet_same {bytes} {text} {told} {answer = answer} {work} {answer₁} {work₁} 
   where
     same : o ≡ p
     same =
-        call-unique finishes_once
+        call_unique finishes_once
         (subst (λ (n : ℕ). CallWithin bytes text told n (length work₁) o) e (subst (λ (n : ℕ). CallWithin bytes text told (length answer) n o) f h.outcome))
         k.outcome
 

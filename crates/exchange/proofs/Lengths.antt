@@ -13,7 +13,7 @@ use Rattle.delivery.specs.Buffers.{zeroed, cleared}
 use Rattle.calls.specs.Causes.{CallAs.refused, CallAs.accepted}
 use Rattle.calls.specs.Outcome.{Outcome, WorkShort, Overflow, RoundsSpent, AnswerShort, Finished, returned, Left, both, answer-buffer, leaves, room, Comes, LeftAs, BuffersAs}
 use Rattle.calls.specs.Within.{CauseWithin, CallWithin, WithinAs}
-use Rattle.calls.proofs.Causes.{none, ◌also◌, none_of, Alike, nothing, both as Alike-both, first_split, call-unique}
+use Rattle.calls.proofs.Causes.{none, ◌also◌, none_of, Alike, nothing, both as Alike-both, first_split, call_unique}
 use Rattle.calls.proofs.Comes.{finishes_once}
 use Rattle.calls.proofs.Outcomes.{recordings, drills, call_exists}
 use Rattle.finder.proofs.Answered.{words_length, fronted_length}
@@ -55,7 +55,7 @@ pub lengths_kept : {bytes text : List ℕ} {told left : ℕ} {answer work answer
     → (length answer' ≡ length answer) × (length work' ≡ length work)
 lengths_kept {bytes} {text} {told} {left} {answer} {work} {answer'} {work'} {o} h =
     let c = call_exists bytes text told (length answer) (length work) in
-    let e = call-unique finishes_once c.1 h.outcome in
+    let e = call_unique finishes_once c.1 h.outcome in
     ⊎_elim (λ k. kept (sym (ap leaves e) ∙ k)) (⊎_elim (λ k. used (sym (ap leaves e) ∙ k.0)) (λ k. finished (sym e ∙ k.2))) c.3
   where
     left_as : (l : Left) → leaves o ≡ l → LeftAs (Comes bytes text) (returned o) l answer work answer' work'

@@ -34,8 +34,8 @@ module _ {ws : List ℤ} {n s : ℕ} where
     next : list_at ws (i * zone_words) (n - i) ≡ zone_at ws (i * zone_words) ∷ list_at ws ((i + 1) * zone_words) (n - (i + 1))
     next = rw (zero-add (i * zone_words), zero-add ((i + 1) * zone_words)) at (list_at_next ws 0 n i more)
 
-    pub proper-next : Proper 0 1_000_000 (zone_at ws (i * zone_words))
-    proper-next = (rw next at h.sound) _ (head refl)
+    pub proper_next : Proper 0 1_000_000 (zone_at ws (i * zone_words))
+    proper_next = (rw next at h.sound) _ (head refl)
 
     pub one_more : Seeing ws n s (see seen (compose (diagonal s s) (zone_at ws (i * zone_words)))) (i + 1)
     unfolding see_each

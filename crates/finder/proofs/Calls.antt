@@ -29,7 +29,7 @@ use Rattle.finder.specs.Demands.{Exact, Total, NoInputCause}
 use Rattle.meaning.proofs.Evaluation.{evaluates_well, evaluates_exists}
 use Rattle.meaning.proofs.Members.{fits_members}
 use Rattle.meaning.proofs.Totals.{evaluates_sum, sum_mem, sum_unique, rounds_of_unique, rounds_of_bound, rounds_of_pieces}
-use Rattle.calls.proofs.Causes.{call-unique, number_none}
+use Rattle.calls.proofs.Causes.{call_unique, number_none}
 use Rattle.meaning.proofs.Finite.{recording_finite}
 use Rattle.calls.proofs.Comes.{comes_unique, finishes_once}
 use Rattle.calls.proofs.Outcomes.{recordings, drills, call_exists}
@@ -161,7 +161,7 @@ left_unique bytes text answer work a w b v r delivered p q =
 pub find_unique : {bytes text : List ℕ} {answer work a w b v : List ℤ} {o p : Outcome} → FindAs bytes text answer work o a w
     → FindAs bytes text answer work p b v → (o ≡ p) × (a ≡ b) × (w ≡ v)
 find_unique {bytes} {text} {answer} {work} {a} {w} {b} {v} {p = p} h k =
-    let e = call-unique finishes_once h.outcome k.outcome in
+    let e = call_unique finishes_once h.outcome k.outcome in
     let s = left_unique bytes text answer work a w b v (returned p) (leaves p) (subst (λ (q : Outcome). BuffersAs bytes text q answer work a w) e h.buffers) k.buffers in
     (e, s.0, s.1)
 
@@ -177,7 +177,7 @@ rounds_unique bytes text left l m delivered p q = p.left_is ∙ ap (λ (v : Valu
 pub within_unique : {bytes text : List ℕ} {left l m : ℕ} {answer work a w b v : List ℤ} {o p : Outcome} → WithinAs bytes text left answer work o l a w
     → WithinAs bytes text left answer work p m b v → (o ≡ p) × (l ≡ m) × (a ≡ b) × (w ≡ v)
 within_unique {bytes} {text} {left} {l} {m} {answer} {work} {a} {w} {b} {v} {p = p} h k =
-    let e = call-unique finishes_once h.outcome k.outcome in
+    let e = call_unique finishes_once h.outcome k.outcome in
     let s = left_unique bytes text answer work a w b v (returned p) (leaves p) (subst (λ (q : Outcome). BuffersAs bytes text q answer work a w) e h.buffers) k.buffers in
     let r = rounds_unique bytes text left l m (leaves p) (subst (λ (q : Outcome). LeftAfter (Comes bytes text) left l (leaves q)) e h.rounds) k.rounds in
     (e, r, s.0, s.1)

@@ -8,7 +8,7 @@ use Rattle.outcome.proofs.Numbers.{zero_finished}
 use Rattle.calls.specs.Outcome.{Outcome, Finished, returned, CallAs, FindAs}
 use Rattle.calls.specs.Within.{CallWithin, WithinAs}
 use Rattle.finder.specs.Demands.{Demand1, Demand1Within, Demand2, Demand3, Total, NoInputCause}
-use Rattle.calls.proofs.Causes.{call-unique, number_first, number_none}
+use Rattle.calls.proofs.Causes.{call_unique, number_first, number_none}
 use Rattle.calls.proofs.Comes.{finishes_once}
 use Rattle.calls.proofs.Rounds.{most_rounds}
 use Rattle.calls.proofs.Outcomes.{call_exists}
@@ -23,7 +23,7 @@ pub one_outcome : (bytes text : List ℕ) (answer work : ℕ)
 one_outcome bytes text answer work =
     let c = call_exists bytes text most_rounds answer work in
     let d = call_find bytes text most_rounds answer work c.1 (λ e. let l = c.2 e in omega arith) in
-    (c.0, d, λ p k. call-unique finishes_once k d)
+    (c.0, d, λ p k. call_unique finishes_once k d)
 
 -- And it leaves one thing in each buffer.
 pub one_result : {bytes text : List ℕ} {answer work a w b v : List ℤ} {o p : Outcome} → FindAs bytes text answer work o a w → FindAs bytes text answer work p b v
@@ -63,7 +63,7 @@ promised h = (demand_1 h, (demand_2 h, demand_3 h))
 -- Every such call has an outcome, and one only.
 pub one_outcome_within : (bytes text : List ℕ) (left answer work : ℕ)
     → (o : Outcome) × CallWithin bytes text left answer work o × ((p : Outcome) → CallWithin bytes text left answer work p → p ≡ o)
-one_outcome_within bytes text left answer work = let c = call_exists bytes text left answer work in (c.0, c.1, λ p d. call-unique finishes_once d c.1)
+one_outcome_within bytes text left answer work = let c = call_exists bytes text left answer work in (c.0, c.1, λ p d. call_unique finishes_once d c.1)
 
 -- It leaves some number of rounds, and something in each buffer ..
 pub some_result_within : (bytes text : List ℕ) (left : ℕ) (answer work : List ℤ)

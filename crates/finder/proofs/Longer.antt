@@ -14,7 +14,7 @@ use Rattle.recording.proofs.Refusals.{reading_exists, refused_length as refused-
 use Rattle.parser.proofs.Parses.{refused_length}
 use Rattle.calls.specs.Outcome.{Outcome, RecordingLength, RecordingHead, RecordingChange, DrillLength, returned, Left, both, leaves, largest, Comes, CallAs, LeftAs, BuffersAs, FindAs}
 use Rattle.calls.specs.Within.{CallWithin, LeftAfter, WithinAs}
-use Rattle.calls.proofs.Causes.{call-unique}
+use Rattle.calls.proofs.Causes.{call_unique}
 use Rattle.calls.proofs.Comes.{finishes_once}
 use Rattle.calls.proofs.Outcomes.{recording_call, drill_call}
 use Rattle.finder.proofs.Unstopped.{call_find}
@@ -66,7 +66,7 @@ module _ {bytes text bytes' text' : List ℕ} (answer work answer' work' : List 
 
   find_together : FindAs bytes text answer work o answer' work' → FindAs bytes' text' answer work o answer' work'
   find_together call =
-      let e = call-unique finishes_once call.outcome (call_find bytes text 0 _ _ (t.one 0) t.unstopped) in
+      let e = call_unique finishes_once call.outcome (call_find bytes text 0 _ _ (t.one 0) t.unstopped) in
       record {
         outcome = subst (CallAs bytes' text' (length answer) (length work)) (sym e) (call_find bytes' text' 0 _ _ (t.other 0) t.unstopped);
         buffers = kept e call.buffers;
@@ -74,7 +74,7 @@ module _ {bytes text bytes' text' : List ℕ} (answer work answer' work' : List 
 
   within_together : {left left' : ℕ} → WithinAs bytes text left answer work o left' answer' work' → WithinAs bytes' text' left answer work o left' answer' work'
   within_together {left} {left'} call =
-      let e = call-unique finishes_once call.outcome (t.one left) in
+      let e = call_unique finishes_once call.outcome (t.one left) in
       let k = ap leaves e ∙ t.keeps in
       record {
         outcome = subst (CallWithin bytes' text' left (length answer) (length work)) (sym e) (t.other left);

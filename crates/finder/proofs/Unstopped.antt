@@ -20,7 +20,7 @@ use Rattle.calls.specs.Causes as calls
 use Rattle.calls.specs.Causes.{CallAs.refused, CallAs.accepted}
 use Rattle.calls.specs.Outcome.{Outcome, WorkShort, Overflow, AnswerShort, RoundsSpent, Finished, returned, leaves, Comes, Cause, refusals, CallAs, FindAs}
 use Rattle.calls.specs.Within.{CauseWithin, refusals_within, CallWithin, LeftAfter, WithinAs}
-use Rattle.calls.proofs.Causes.{NoneOf, none, ◌also◌, none_of, none_append, refused-at, Alike, nothing, both, none_alike, first_split, call-unique}
+use Rattle.calls.proofs.Causes.{NoneOf, none, ◌also◌, none_of, none_append, refused_at, Alike, nothing, both, none_alike, first_split, call_unique}
 use Rattle.calls.proofs.Comes.{comes_unique, finishes_once}
 use Rattle.calls.proofs.Outcomes.{recordings, drills, call_exists}
 use Rattle.calls.proofs.Rounds.{most_rounds}
@@ -51,7 +51,7 @@ module _ (bytes text : List ℕ) (left answer work : ℕ) where
       rest n [] vs e h m =
           let q : Overflow ≡ o = cc in
           let t = subst (CauseWithin bytes text left answer work) (sym q) h in
-          subst (CallAs bytes text answer work) q (refused-at nine (AnswerShort ∷ []) Overflow refl n (t.opened, t.done, t.means))
+          subst (CallAs bytes text answer work) q (refused_at nine (AnswerShort ∷ []) Overflow refl n (t.opened, t.done, t.means))
       rest n (a ∷ []) vs e h m = let q : RoundsSpent ≡ o = cc in absurd (unstopped (ap (λ (p : Outcome). (returned p).number) (sym q)))
       rest n (a ∷ b ∷ []) vs e h m =
           let q : AnswerShort ≡ o = cc in
@@ -59,7 +59,7 @@ module _ (bytes text : List ℕ) (left answer work : ℕ) where
           let j : RoundsSpent ≡ b = cc in
           let t = subst (CauseWithin bytes text left answer work) (sym q) h in
           subst (CallAs bytes text answer work) q
-          (refused-at (nine ++ (Overflow ∷ [])) [] AnswerShort refl
+          (refused_at (nine ++ (Overflow ∷ [])) [] AnswerShort refl
           (none_append n (not_ten (m Overflow (Memᴰ.head i)) (m RoundsSpent (Memᴰ.tail (Memᴰ.head j))) also none)) t)
       rest n (a ∷ b ∷ c ∷ us) vs e h m = let q = ap length e in absurd (omega (arith, length-append us (o ∷ vs)))
 
@@ -86,7 +86,7 @@ pub never_stopped : {bytes text : List ℕ} {left left' : ℕ} {answer work answ
     → WithinAs bytes text left answer work o left' answer' work' → ¬ ((returned o).number ≡ 13)
 never_stopped {bytes} {text} {left} {answer = answer} {work = work} many h e =
     let c = call_exists bytes text left (length answer) (length work) in
-    let q = ap (λ (p : Outcome). (returned p).number) (call-unique finishes_once h.outcome c.1) in
+    let q = ap (λ (p : Outcome). (returned p).number) (call_unique finishes_once h.outcome c.1) in
     let l = c.2 (sym q ∙ e) in
     omega arith
 
@@ -111,9 +111,9 @@ pub accepted_spends : {bytes text : List ℕ} {left left' : ℕ} {answer work an
 accepted_spends {bytes} {text} {left} {answer = answer} {work} {zones = zones} {rounds} h =
     let f = h.buffers.finishes in
     let u = ap spent (comes_unique f.means h.rounds.means) in
-    let few : ¬ (left < rounds) = λ l. none-spent h.outcome (record { whole = value f.list rounds; means = f.means; beyond = l }) in
+    let few : ¬ (left < rounds) = λ l. none_spent h.outcome (record { whole = value f.list rounds; means = f.means; beyond = l }) in
     omega (arith, h.rounds.left_is)
   where
-    none-spent : {n m : ℕ} → CallWithin bytes text left n m (Finished zones rounds) → ¬ Exceeding (Comes bytes text) left
-    none-spent (refused f) = absurd f.holds
-    none-spent (accepted n f) = n RoundsSpent (append_right (nine ++ (Overflow ∷ [])) (Memᴰ.head refl))
+    none_spent : {n m : ℕ} → CallWithin bytes text left n m (Finished zones rounds) → ¬ Exceeding (Comes bytes text) left
+    none_spent (refused f) = absurd f.holds
+    none_spent (accepted n f) = n RoundsSpent (append_right (nine ++ (Overflow ∷ [])) (Memᴰ.head refl))

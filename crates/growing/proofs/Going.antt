@@ -61,8 +61,8 @@ module _ {whole : Built} {g₀ : Growing} {L₀ : List Zone} {target : ℕ} {ws�
         }
 
     -- one of them would have left 129 zones; what else is known stays
-    pub going-overflow : {P : Type 0} → (insert_each rs (list_at ws target g.count) ≡ overflow) × P → (whole ≡ overflow) × P
-    going-overflow o = (sym both ∙ ap (λ (r : Built). then r (insert_each todo)) o.0, o.1)
+    pub going_overflow : {P : Type 0} → (insert_each rs (list_at ws target g.count) ≡ overflow) × P → (whole ≡ overflow) × P
+    going_overflow o = (sym both ∙ ap (λ (r : Built). then r (insert_each todo)) o.0, o.1)
 
   -- nothing is left to put
   pub going_end : {todo : List MaybeZone} → todo ≡ [] → Going todo whole g₀ L₀ target ws₀ ws g → {Counts : ℕ → Type 0} (n : ℕ) → Counts n → g.pairs ≡ g₀.pairs + n → Growth whole Counts g₀ L₀ ws target g

@@ -82,13 +82,13 @@ module _ (text : List ℕ) (at : ℕ) (m : starts 40 (drop at text) ≡ false) w
     leaves {b = b} {w = w} e a i p st de wi wr re =
         adds (nothing b used w) e a i (omega arith) (omega arith) (omega arith) (kept_refl _ _) p (st p.placed) de wi wr re refl
 
-    pub leaf-epsilon : starts 95 (drop at text) ≡ true → at < length text → Placed used Epsilon ns ns'
+    pub leaf_epsilon : starts 95 (drop at text) ≡ true → at < length text → Placed used Epsilon ns ns'
         → Reached single yes text at used ns ns' (over (nothing (at + 1) used 0))
     unfolding capped depth width wrong branch
-    leaf-epsilon m' l p = leaves epsilon (omega arith) (omega arith) p stored_epsilon refl refl refl (single_is (drop at text) ∙ rw (m, m', rest_drop text at l))
+    leaf_epsilon m' l p = leaves epsilon (omega arith) (omega arith) p stored_epsilon refl refl refl (single_is (drop at text) ∙ rw (m, m', rest_drop text at l))
 
-    pub leaf-letter : {a k : ℕ} {s : Sign} → starts 95 (drop at text) ≡ false → Letter-at text at a s k
+    pub leaf_letter : {a k : ℕ} {s : Sign} → starts 95 (drop at text) ≡ false → Letter-at text at a s k
         → Placed used (Literal s k) ns ns' → Reached single yes text at used ns ns' (over (nothing a used (k + 1)))
     unfolding capped depth width wrong
-    leaf-letter {k = k} {s = s} m' o p =
+    leaf_letter {k = k} {s = s} m' o p =
         leaves (literal s k) o.ahead o.inside p stored_literal refl (omega arith) refl (plain m' ∙ o.read)

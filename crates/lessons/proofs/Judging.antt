@@ -57,11 +57,11 @@ module _ (bytes text : List ℕ) where
     recordings : NoneOf (LessonCause bytes text) (RecordingLength ∷ RecordingHead ∷ RecordingChange ∷ [])
     recordings = not_length (r.0 1) also not_head (r.0 2) also not_change (r.0 3) also none
 
-    pub wrong-sheet : Unlined text → First lesson_causes (LessonCause bytes text) SheetForm
-    wrong-sheet u = record { earlier = RecordingLength ∷ RecordingHead ∷ RecordingChange ∷ []; later = _; place = refl; holds = sheet_form u; none = none_of recordings }
+    pub wrong_sheet : Unlined text → First lesson_causes (LessonCause bytes text) SheetForm
+    wrong_sheet u = record { earlier = RecordingLength ∷ RecordingHead ∷ RecordingChange ∷ []; later = _; place = refl; holds = sheet_form u; none = none_of recordings }
 
-    pub none-wrong : ¬ Unlined text → NoCause lesson_causes (LessonCause bytes text)
-    none-wrong n = none_of (not_length (r.0 1) also not_head (r.0 2) also not_change (r.0 3) also not_sheet n also none)
+    pub none_wrong : ¬ Unlined text → NoCause lesson_causes (LessonCause bytes text)
+    none_wrong n = none_of (not_length (r.0 1) also not_head (r.0 2) also not_change (r.0 3) also not_sheet n also none)
 
 -- ---- what is printed alone
 

@@ -22,7 +22,7 @@ use Rattle.finder.proofs.Longer.{Alike}
 use Rattle.sheet.specs.Sheet.{refused}
 use Rattle.lines.proofs.Lined.{lined_unique, lined_or_not}
 use Rattle.lessons.specs.Lessons.{LessonCause, lesson_causes, Demand1Lesson, LessonAs, LessonAs.turned_back, LessonAs.held}
-use Rattle.lessons.proofs.Judging.{wrong_length, wrong_head, wrong_change, wrong-sheet, none-wrong, lesson_refusal}
+use Rattle.lessons.proofs.Judging.{wrong_length, wrong_head, wrong_change, wrong_sheet, none_wrong, lesson_refusal}
 
 -- Theorem: of a recording, a text and both buffers a lesson is one thing only.
 pub one_lesson : {bytes text p q : List ℕ} {m n : ℕ} {answer work a w b v : List ℤ} → LessonAs bytes text answer work m p a w → LessonAs bytes text answer work n q b v
@@ -45,8 +45,8 @@ some_lesson bytes text answer work = let a = reading_exists largest bytes in rea
     read WrongHead r = (2, _, _, _, turned_back (wrong_head bytes text r))
     read WrongChange r = (3, _, _, _, turned_back (wrong_change bytes text r))
     read (Recorded size) r =
-        ⊎_elim (λ l. let s = results_exist bytes answer work l.0 in (0, _, s.1, s.2, held (none-wrong bytes text r (λ u. u l.0 l.1)) l.1 s.3))
-        (λ u. (12, _, _, _, turned_back (wrong-sheet bytes text r u))) (lined_or_not text)
+        ⊎_elim (λ l. let s = results_exist bytes answer work l.0 in (0, _, s.1, s.2, held (none_wrong bytes text r (λ u. u l.0 l.1)) l.1 s.3))
+        (λ u. (12, _, _, _, turned_back (wrong_sheet bytes text r u))) (lined_or_not text)
 
 -- Its number is that of a refusal exactly where that is the first cause, and 0 exactly where none holds.
 pub promised_lesson : {bytes text printed : List ℕ} {number : ℕ} {answer work answer' work' : List ℤ} → LessonAs bytes text answer work number printed answer' work'

@@ -49,7 +49,7 @@ use Rattle.meaning.specs.Lists.{value, ended, Then.goes, run_zones, Letter, mome
 use Rattle.outcome.specs.declared.Outcome.TheVariants.{Finished}
 use Rattle.calls.specs.Outcome.{Comes, room, words, fronted, cleared, FindAs}
 use Rattle.marked.specs.Marked.{R, Row, marked, Gives, RowHolds}
-use Rattle.calls.proofs.Outcomes.{recordings, drills, Without, recording_call, drill_none, accepted-call}
+use Rattle.calls.proofs.Outcomes.{recordings, drills, Without, recording_call, drill_none, accepted_call}
 use Rattle.finder.proofs.Unstopped.{call_find}
 use Rattle.finder.proofs.Calls.{find_unique}
 
@@ -92,7 +92,7 @@ gives {text} {e} {L} {r} form pass evaluates answer work long roomy =
     call : FindAs R text answer work (Finished (length L) r) (fronted (words L) answer) (cleared work)
     call =
         record {
-          outcome = call_find R text r (length answer) (length work) (accepted-call R text r (length answer) (length work) none roomy comes (omega arith) long) (λ e. omega arith);
+          outcome = call_find R text r (length answer) (length work) (accepted_call R text r (length answer) (length work) none roomy comes (omega arith) long) (λ e. omega arith);
           buffers = record { finishes = record { list = L; means = comes; count = refl }; answer_filled = refl; work_cleared = refl };
         }
 

@@ -16,7 +16,7 @@ use Rattle.operators.specs.Operators.{union as unite, meets, compositions, bande
 use Rattle.absence.specs.Absence.{absent}
 use Rattle.purse.proofs.Values.{begun_with}
 use Rattle.list.proofs.Theorems.{WellFormed, built_well}
-use Rattle.operators.proofs.Theorems.{union_well, meets_well, compositions-well, banded_well}
+use Rattle.operators.proofs.Theorems.{union_well, meets_well, compositions_well, banded_well}
 use Rattle.absence.proofs.Theorems.{absent_well}
 use Rattle.star.proofs.Theorems.{star_well, star_unique, star_exists}
 use Rattle.runs.specs.declared.Level.{Level}
@@ -172,7 +172,7 @@ module _ (Shows : ℕ → Level → ℕ → Type 0) {from to : ℕ} (order : fro
       let q = both_parts meets p in meets_well q.one q.two (evaluates_well e _ q.first).proper q.built
   evaluates_well (join Concatenation e f) t p =
       let q = both_parts compositions p in
-      compositions-well q.one q.two (evaluates_well e _ q.first).proper (evaluates_well f _ q.second).proper q.built
+      compositions_well q.one q.two (evaluates_well e _ q.first).proper (evaluates_well f _ q.second).proper q.built
   evaluates_well (unary Star e) t p =
       let q = then_parts p in star_well q.4 order (evaluates_well e _ q.3)
   evaluates_well (unary (Band r) e) t p =

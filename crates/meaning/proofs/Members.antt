@@ -22,7 +22,7 @@ use Rattle.list.specs.Members.{Lies, AllProper}
 use Rattle.list.proofs.Coverage.{Offered}
 use Rattle.list.proofs.Members.{offered_one}
 use Rattle.list.proofs.Theorems.{built_lies}
-use Rattle.operators.proofs.Theorems.{union_lies, meets_lies, compositions-lies, banded_lies}
+use Rattle.operators.proofs.Theorems.{union_lies, meets_lies, compositions_lies, banded_lies}
 use Rattle.absence.proofs.Theorems.{absent_lies}
 use Rattle.star.proofs.Theorems.{star_lies}
 use Rattle.runs.specs.declared.Level.{Level}
@@ -189,7 +189,7 @@ module _ (Shows : ℕ → Level → ℕ → Type 0) {from to : ℕ} (finite : Fi
       let q = both_parts compositions p in
       let u = (evaluates_well Shows order e _ q.first).proper in
       let v = (evaluates_well Shows order f _ q.second).proper in
-      Iff.trans (compositions-lies q.one q.two u v q.built x y) (
+      Iff.trans (compositions_lies q.one q.two u v q.built x y) (
         λ l. let i = lies_inside u l.1 in
             let j = lies_inside v l.2 in
             (l.0, i.1, j.1, (members e _ q.first x l.0 i).0 l.1, (members f _ q.second l.0 y j).0 l.2),

@@ -179,10 +179,10 @@ module _ (Shows : ℕ → Level → ℕ → Type 0) {from to : ℕ} (some : from
   begun_few (literal Rise k) v p = let b = built_begun (insert_each (moment_zones p.at) []) p.built in omega arith
   begun_few (literal Fall k) v p = let b = built_begun (insert_each (moment_zones p.at) []) p.built in omega arith
   begun_few (join j e f) v p = rw (length-append (repeated e) (repeated f)) (omega (arith, both_begun (join_list j) (begun_few e) (begun_few f) v p))
-  begun_few (unary Star e) v p = omega (arith, then_few (begun_few e) star-few v p)
+  begun_few (unary Star e) v p = omega (arith, then_few (begun_few e) star_few v p)
     where
-      star-few : (A : List Zone) (r : ℕ) → Evaluates Shows from to e (value A r) → (w : Value) → Stars A (diagonal from to) w → begun w ≤ capacity + (to - from)
-      star-few A r q w s = let l = evaluates_well Shows (omega arith) e r q in let h = star_begun l.proper some s in omega (arith, l.short)
+      star_few : (A : List Zone) (r : ℕ) → Evaluates Shows from to e (value A r) → (w : Value) → Stars A (diagonal from to) w → begun w ≤ capacity + (to - from)
+      star_few A r q w s = let l = evaluates_well Shows (omega arith) e r q in let h = star_begun l.proper some s in omega (arith, l.short)
   begun_few (unary (Band r) e) v p = omega (arith, then_few {n = 0} (begun_few e) (λ A s _ w q. let b = built_begun (banded (range_band from to r) A) q in omega arith) v p)
   begun_few (unary Absence e) v p = omega (arith, then_few {n = 0} (begun_few e) (λ A s _ w q. let b = built_begun (absent from to A) q in omega arith) v p)
 

@@ -32,13 +32,13 @@ pub ends_decide : (z w : Zone) {e ne l nl : Bool} → at_most w.start z.start �
     → e && ne ≡ contains z w
 ends_decide z w {e} {ne} {l} {nl} p q a b t f g = rw (f, g, p, q) (go l nl (sym a) (sym b) t)
   where
-    and-true : (x : Bool) → x ≡ x && true && true
-    and-true true = refl
-    and-true false = refl
+    and_true : (x : Bool) → x ≡ x && true && true
+    and_true true = refl
+    and_true false = refl
 
     go : (l nl : Bool) → at_most w.length z.length ≡ l → at_most w.nlength z.nlength ≡ nl → l && nl ≡ true
         → at_most w.end z.end && at_most w.nend z.nend ≡ at_most w.end z.end && at_most w.nend z.nend && at_most w.length z.length && at_most w.nlength z.nlength
-    go true true a b t = rw (a, b) (and-true (at_most w.end z.end && at_most w.nend z.nend))
+    go true true a b t = rw (a, b) (and_true (at_most w.end z.end && at_most w.nend z.nend))
     go true false a b t = absurd (subst T (sym t) tt)
     go false nl a b t = absurd (subst T (sym t) tt)
 

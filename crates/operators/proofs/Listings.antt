@@ -56,14 +56,14 @@ module _ (A B : List Zone) where
 
   -- after the left zones: B' is the right list, read from the words as they are then
   module _ {us : List ℤ} {target k : ℕ} (g : Listing (insert_each (map zone A) []) us target k) {B' : List Zone} (e : B' ≡ B) where
-    then-right : union A B ≡ insert_each (map zone B') (list_at us target k)
-    then-right = in_turn ∙ ap (λ (r : Built). then r (insert_each (map zone B))) g.value ∙ ap (insert_each (map zone B)) (sym g.holds.zones) ∙ ap (λ (C : List Zone). insert_each (map zone C) (list_at us target k)) (sym e)
+    then_right : union A B ≡ insert_each (map zone B') (list_at us target k)
+    then_right = in_turn ∙ ap (λ (r : Built). then r (insert_each (map zone B))) g.value ∙ ap (insert_each (map zone B)) (sym g.holds.zones) ∙ ap (λ (C : List Zone). insert_each (map zone C) (list_at us target k)) (sym e)
 
-    pub union-right-overflow : {P : Type 0} → (insert_each (map zone B') (list_at us target k) ≡ overflow) × P → (union A B ≡ overflow) × P
-    union-right-overflow o = (then-right ∙ o.0, o.1)
+    pub union_right_overflow : {P : Type 0} → (insert_each (map zone B') (list_at us target k) ≡ overflow) × P → (union A B ≡ overflow) × P
+    union_right_overflow o = (then_right ∙ o.0, o.1)
 
-    pub union-listing : {Counts : ℕ → Type 0} {g h : Growing} {L : List Zone} {vs : List ℤ} → Growth (insert_each (map zone B') (list_at us target k)) Counts g L vs target h → Listing (union A B) vs target h.count
-    union-listing w = record { list = w.list; value = then-right ∙ w.value; holds = w.holds }
+    pub union_listing : {Counts : ℕ → Type 0} {g h : Growing} {L : List Zone} {vs : List ℤ} → Growth (insert_each (map zone B') (list_at us target k)) Counts g L vs target h → Listing (union A B) vs target h.count
+    union_listing w = record { list = w.list; value = then_right ∙ w.value; holds = w.holds }
 
 -- ---- one zone, written into a slot of its own
 

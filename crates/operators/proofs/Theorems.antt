@@ -47,13 +47,13 @@ module _ (A B : List Zone) {L : List Zone} where
 
   module _ {from to : ℕ} (a : AllProper from to A) (b : AllProper from to B) (e : compositions A B ≡ listed L) where
     -- `.`: some cut, any fraction
-    pub compositions-lies : (x y : Time) → Lies L x y ↔ ((t : Time) × Lies A x t × Lies B t y)
+    pub compositions_lies : (x y : Time) → Lies L x y ↔ ((t : Time) × Lies A x t × Lies B t y)
     unfolding compositions
-    compositions-lies x y = Iff.trans (built_lies (pairs Compose A B) e x y) (offered_compositions A B x y a b)
+    compositions_lies x y = Iff.trans (built_lies (pairs Compose A B) e x y) (offered_compositions A B x y a b)
 
-    pub compositions-well : WellFormed from to L
+    pub compositions_well : WellFormed from to L
     unfolding compositions
-    compositions-well = built_well (pairs Compose A B) e (λ z m. let p = pairs_mem Compose A B m in proper_compose (a p.0 p.2) (b p.1 p.3) p.4)
+    compositions_well = built_well (pairs Compose A B) e (λ z m. let p = pairs_mem Compose A B m in proper_compose (a p.0 p.2) (b p.1 p.3) p.4)
 
 -- `{lo,hi}`: also in the band
 pub banded_lies : (b : MaybeZone) (A : List Zone) {L : List Zone} → banded b A ≡ listed L → (x y : Time) → Lies L x y ↔ (Lies A x y × InMaybe b x y)

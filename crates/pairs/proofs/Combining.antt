@@ -20,7 +20,7 @@ use Rattle.pairs.specs.Row.{applied}
 use Rattle.pairs.specs.Steps.{one_more}
 use Rattle.list.proofs.Slots.{kept_refl}
 use Rattle.list.proofs.Puts.{holds_same}
-use Rattle.growing.proofs.Going.{Going, going_start, going_same, going_on, going-overflow, going_end}
+use Rattle.growing.proofs.Going.{Going, going_start, going_same, going_on, going_overflow, going_end}
 use Rattle.pairs.proofs.Counted.{counted_append, counted_most, counted_none}
 
 -- of the pairs `whole` those still to come are `todo`; the list that stood as g₀ stands as g now
@@ -53,8 +53,8 @@ module _ {op : Operation} {whole : List (Zone × Zone)} {g₀ : Growing} {target
     parts = going_same (map-append (applied op) ps todo) c.going
 
     -- the first pairs were put
-    pub combining-on : {vs : List ℤ} {h : Growing} → Growth (insert_each (map (applied op) ps) (list_at ws target g.count)) (Counted (Composed op) ps) g (list_at ws target g.count) vs target h → Kept target 768 ws vs → Combining op todo whole g₀ target ws₀ vs h
-    combining-on w f =
+    pub combining_on : {vs : List ℤ} {h : Growing} → Growth (insert_each (map (applied op) ps) (list_at ws target g.count)) (Counted (Composed op) ps) g (list_at ws target g.count) vs target h → Kept target 768 ws vs → Combining op todo whole g₀ target ws₀ vs h
+    combining_on w f =
         record {
           going = going_on (map (applied op) ps) (map (applied op) todo) parts w f;
           done = c.done ++ ps;
@@ -64,13 +64,13 @@ module _ {op : Operation} {whole : List (Zone × Zone)} {g₀ : Growing} {target
           sum = omega (arith, c.sum, w.pairs);
         }
 
-    pub combining-overflow : {P : Type 0} → (insert_each (map (applied op) ps) (list_at ws target g.count) ≡ overflow) × P → (insert_each (map (applied op) whole) (list_at ws₀ target g₀.count) ≡ overflow) × P
-    combining-overflow o = going-overflow (map (applied op) ps) (map (applied op) todo) parts o
+    pub combining_overflow : {P : Type 0} → (insert_each (map (applied op) ps) (list_at ws target g.count) ≡ overflow) × P → (insert_each (map (applied op) whole) (list_at ws₀ target g₀.count) ≡ overflow) × P
+    combining_overflow o = going_overflow (map (applied op) ps) (map (applied op) todo) parts o
 
     -- none of them gives anything
-    pub combining-past : ((p : Zone × Zone) → Memᴰ p ps → (applied op p ≡ empty) × (¬ Composed op p)) → Combining op todo whole g₀ target ws₀ ws g
-    combining-past f =
-        combining-on
+    pub combining_past : ((p : Zone × Zone) → Memᴰ p ps → (applied op p ≡ empty) × (¬ Composed op p)) → Combining op todo whole g₀ target ws₀ ws g
+    combining_past f =
+        combining_on
         (record {
           list = list_at ws target g.count;
           value = all_empty op ps (list_at ws target g.count) (λ p m. (f p m).0);

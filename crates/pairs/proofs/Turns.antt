@@ -24,7 +24,7 @@ use Rattle.pairs.specs.Pairs.{Operation, Meet, Compose, apply, beside, Composed}
 use Rattle.pairs.specs.Row.{most_pairs, applied, Pairing}
 use Rattle.pairs.specs.Steps.{one_more}
 use Rattle.pairs.proofs.Zones.{still_zones, proper_there, proper_one, read_there, read_one}
-use Rattle.pairs.proofs.Combining.{Combining, combining_same, combining_most, combining-on, combining-overflow, combining-past, met, composed_one}
+use Rattle.pairs.proofs.Combining.{Combining, combining_same, combining_most, combining_on, combining_overflow, combining_past, met, composed_one}
 
 module _ {ws₀ : List ℤ} {left right m target : ℕ} {g₀ : Growing} (p : Pairing ws₀ left right m target g₀) where
   -- the pairs from the j-th right zone on
@@ -48,8 +48,8 @@ module _ {ws₀ : List ℤ} {left right m target : ℕ} {g₀ : Growing} (p : Pa
     w = zone_at ws (right + j * 6)
 
     -- the two zones as they are read now
-    pub pair-ready : (left + 6 ≤ length ws) × (right + j * 6 + 6 ≤ length ws) × Proper 0 1_000_000 z × Proper 0 1_000_000 w
-    pair-ready =
+    pub pair_ready : (left + 6 ≤ length ws) × (right + j * 6 + 6 ≤ length ws) × Proper 0 1_000_000 z × Proper 0 1_000_000 w
+    pair_ready =
         let one = still_zones p.one k in
         let others = still_zones p.others k in
         (omega (arith, one.room), omega (arith, others.room), proper_one one, proper_there others j l)
@@ -64,41 +64,41 @@ module _ {ws₀ : List ℤ} {left right m target : ℕ} {g₀ : Growing} (p : Pa
       ahead : Combining op (((z, w) ∷ []) ++ from (j + 1)) all g₀ target ws₀ ws g
       ahead = combining_same next c
 
-      pub pair-countable : g.pairs < most_pairs
-      pair-countable = omega (arith, p.countable, combining_most c, length-map {B = Zone × Zone} (list_at ws₀ (right + j * 6) (m - j)) (λ (y : Zone). (zone_at ws₀ left, y)), list_at_length ws₀ (right + j * 6) (m - j), length-map {B = Zone × Zone} (list_at ws₀ right m) (λ (y : Zone). (zone_at ws₀ left, y)), list_at_length ws₀ right m)
+      pub pair_countable : g.pairs < most_pairs
+      pair_countable = omega (arith, p.countable, combining_most c, length-map {B = Zone × Zone} (list_at ws₀ (right + j * 6) (m - j)) (λ (y : Zone). (zone_at ws₀ left, y)), list_at_length ws₀ (right + j * 6) (m - j), length-map {B = Zone × Zone} (list_at ws₀ right m) (λ (y : Zone). (zone_at ws₀ left, y)), list_at_length ws₀ right m)
 
       -- it gives nothing
-      pub pair-past : apply op z w ≡ empty → ¬ Composed op (z, w) → Combining op (from (j + 1)) all g₀ target ws₀ ws g
-      pair-past e n = combining-past ((z, w) ∷ []) (from (j + 1)) ahead (λ q i. subst (λ (r : Zone × Zone). (applied op r ≡ empty) × (¬ Composed op r)) (sym (eq_of_singleton i)) (e, n))
+      pub pair_past : apply op z w ≡ empty → ¬ Composed op (z, w) → Combining op (from (j + 1)) all g₀ target ws₀ ws g
+      pair_past e n = combining_past ((z, w) ∷ []) (from (j + 1)) ahead (λ q i. subst (λ (r : Zone × Zone). (applied op r ≡ empty) × (¬ Composed op r)) (sym (eq_of_singleton i)) (e, n))
 
       -- its zone would be the 129th
-      pub pair-overflow : {v : Zone} → apply op z w ≡ zone v → {P : Type 0} → (insert_each (zone v ∷ []) (list_at ws target g.count) ≡ overflow) × P → (insert_each (map (applied op) all) (list_at ws₀ target g₀.count) ≡ overflow) × P
-      pair-overflow e o = combining-overflow ((z, w) ∷ []) (from (j + 1)) ahead (ap (λ (r : MaybeZone). insert_each (r ∷ []) (list_at ws target g.count)) e ∙ o.0, o.1)
+      pub pair_overflow : {v : Zone} → apply op z w ≡ zone v → {P : Type 0} → (insert_each (zone v ∷ []) (list_at ws target g.count) ≡ overflow) × P → (insert_each (map (applied op) all) (list_at ws₀ target g₀.count) ≡ overflow) × P
+      pair_overflow e o = combining_overflow ((z, w) ∷ []) (from (j + 1)) ahead (ap (λ (r : MaybeZone). insert_each (r ∷ []) (list_at ws target g.count)) e ∙ o.0, o.1)
 
     module _ {g : Growing} (c : Combining Meet (from j) all g₀ target ws₀ ws g) where
-      pub met-past : meet z w ≡ empty → Combining Meet (from (j + 1)) all g₀ target ws₀ ws g
-      met-past e = pair-past c e (λ n. n)
+      pub met_past : meet z w ≡ empty → Combining Meet (from (j + 1)) all g₀ target ws₀ ws g
+      met_past e = pair_past c e (λ n. n)
 
-      pub met-on : {v : Zone} → meet z w ≡ zone v → {vs : List ℤ} {h : Growing} → Growth (insert_each (zone v ∷ []) (list_at ws target g.count)) NoPair g (list_at ws target g.count) vs target h → Kept target 768 ws vs → Combining Meet (from (j + 1)) all g₀ target ws₀ vs h
-      met-on e b f = combining-on ((z, w) ∷ []) (from (j + 1)) (ahead c) (met e b) f
+      pub met_on : {v : Zone} → meet z w ≡ zone v → {vs : List ℤ} {h : Growing} → Growth (insert_each (zone v ∷ []) (list_at ws target g.count)) NoPair g (list_at ws target g.count) vs target h → Kept target 768 ws vs → Combining Meet (from (j + 1)) all g₀ target ws₀ vs h
+      met_on e b f = combining_on ((z, w) ∷ []) (from (j + 1)) (ahead c) (met e b) f
 
     module _ {g : Growing} (c : Combining Compose (from j) all g₀ target ws₀ ws g) where
       -- no end of the one is a start of the other
-      pub apart-past : ¬ Touches z w → Combining Compose (from (j + 1)) all g₀ target ws₀ ws g
-      apart-past n = pair-past c ((compose_empty pair-ready.2.tight pair-ready.3.tight).1 (λ x t y a b. n (x, t, y, a, b))) n
+      pub apart_past : ¬ Touches z w → Combining Compose (from (j + 1)) all g₀ target ws₀ ws g
+      apart_past n = pair_past c ((compose_empty pair_ready.2.tight pair_ready.3.tight).1 (λ x t y a b. n (x, t, y, a, b))) n
 
-      pub composed-on : {v : Zone} → compose z w ≡ zone v → Touches z w → {vs : List ℤ} {h : Growing} → Growth (insert_each (zone v ∷ []) (list_at ws target g.count)) NoPair (one_more g) (list_at ws target g.count) vs target h → Kept target 768 ws vs → Combining Compose (from (j + 1)) all g₀ target ws₀ vs h
-      composed-on e t b f = combining-on ((z, w) ∷ []) (from (j + 1)) (ahead c) (composed_one e t b) f
+      pub composed_on : {v : Zone} → compose z w ≡ zone v → Touches z w → {vs : List ℤ} {h : Growing} → Growth (insert_each (zone v ∷ []) (list_at ws target g.count)) NoPair (one_more g) (list_at ws target g.count) vs target h → Kept target 768 ws vs → Combining Compose (from (j + 1)) all g₀ target ws₀ vs h
+      composed_on e t b f = combining_on ((z, w) ∷ []) (from (j + 1)) (ahead c) (composed_one e t b) f
 
     -- two that touch have a composition
-    pub touching-some : Touches z w → ¬ (compose z w ≡ empty)
-    touching-some t e = (compose_empty pair-ready.2.tight pair-ready.3.tight).0 e t.0 t.1 t.2 t.3 t.4
+    pub touching_some : Touches z w → ¬ (compose z w ≡ empty)
+    touching_some t e = (compose_empty pair_ready.2.tight pair_ready.3.tight).0 e t.0 t.1 t.2 t.3 t.4
 
-    pub composed-ranged : {v : Zone} → compose z w ≡ zone v → Ranged 1_000_000 v
-    composed-ranged e = ranged (proper_compose pair-ready.2 pair-ready.3 e)
+    pub composed_ranged : {v : Zone} → compose z w ≡ zone v → Ranged 1_000_000 v
+    composed_ranged e = ranged (proper_compose pair_ready.2 pair_ready.3 e)
 
-    pub met-ranged : {v : Zone} → meet z w ≡ zone v → Ranged 1_000_000 v
-    met-ranged e = ranged (proper_meet w pair-ready.2 e)
+    pub met_ranged : {v : Zone} → meet z w ≡ zone v → Ranged 1_000_000 v
+    met_ranged e = ranged (proper_meet w pair_ready.2 e)
 
 -- the list with one pair more stands as it stood
 pub one_more_stands : {ws : List ℤ} {target : ℕ} {g : Growing} → Stands ws target g → Stands ws target (one_more g)

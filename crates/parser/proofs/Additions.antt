@@ -53,25 +53,25 @@ module _ (j : Join) where
   joins_none s e = joining_is j s ∙ rw e
 
   module _ {text before ns : List ℕ} {at used : ℕ} {tree : Tree} (s : Reached (joining j) (joins_after j) text at used before ns tree) where
-    pub joins-end : {entry : List ℕ} → FrontKept (used * 4) entry before → starts (symbol j) (drop tree.at text) ≡ false → Reached (joining j) yes text at used entry ns tree
-    joins-end k e = again s (kept_trans (omega arith) k s.kept) (s.read ∙ joins_off j s.e (drop tree.at text) e)
+    pub joins_end : {entry : List ℕ} → FrontKept (used * 4) entry before → starts (symbol j) (drop tree.at text) ≡ false → Reached (joining j) yes text at used entry ns tree
+    joins_end k e = again s (kept_trans (omega arith) k s.kept) (s.read ∙ joins_off j s.e (drop tree.at text) e)
 
     -- the symbol of the join follows
     module _ (m : starts (symbol j) (drop tree.at text) ≡ true) (l : tree.at < length text) where
       goes : descent (joining j) (drop at text) ≡ bind (descent (below j) (drop (tree.at + 1) text)) (λ f r. joins_after j (join j s.e f) r)
       goes = s.read ∙ joins_on j s.e (drop tree.at text) m ∙ rw (rest_drop text tree.at l)
 
-      pub joins-stop : descent (below j) (drop (tree.at + 1) text) ≡ no → descent (joining j) (drop at text) ≡ no
+      pub joins_stop : descent (below j) (drop (tree.at + 1) text) ≡ no → descent (joining j) (drop at text) ≡ no
       unfolding bind
-      joins-stop e = goes ∙ rw e
+      joins_stop e = goes ∙ rw e
 
       -- one more operand, and the node over both
-      pub joins-on-to : {ns' ns'' : List ℕ} {right new : Tree}
+      pub joins_on_to : {ns' ns'' : List ℕ} {right new : Tree}
           → Reached (below j) yes text (tree.at + 1) tree.used ns ns' right
           → new ≡ over (beside tree right) → Placed right.used (Infix j tree.root right.root) ns' ns''
           → Reached (joining j) (joins_after j) text at used before ns'' new
       unfolding bind capped depth width wrong
-      joins-on-to {right = right} r is p =
+      joins_on_to {right = right} r is p =
           let left : tree.root * 4 + 4 ≤ tree.used * 4 = omega (arith, s.rooted) in
           let rightly : right.root * 4 + 4 ≤ right.used * 4 = omega (arith, r.rooted) in
           let between : tree.used * 4 ≤ right.used * 4 = omega (arith, r.grown) in
@@ -104,16 +104,16 @@ module _ (text : List ℕ) (at : ℕ) where
     unfolding branch
     tilded = factoring_is (drop at text) ∙ rw (m, rest_drop text at l)
 
-    pub tilded-stop : descent repeating (drop (at + 1) text) ≡ no → descent factoring (drop at text) ≡ no
+    pub tilded_stop : descent repeating (drop (at + 1) text) ≡ no → descent factoring (drop at text) ≡ no
     unfolding bind
-    tilded-stop e = tilded ∙ rw e
+    tilded_stop e = tilded ∙ rw e
 
     -- the node over the repeat
-    pub tilded-on : {used : ℕ} {before ns ns' : List ℕ} {inner new : Tree} → Reached repeating yes text (at + 1) used before ns inner
+    pub tilded_on : {used : ℕ} {before ns ns' : List ℕ} {inner new : Tree} → Reached repeating yes text (at + 1) used before ns inner
         → new ≡ over (around inner inner.at false) → Placed inner.used (Applied Absence inner.root) ns ns'
         → Reached factoring yes text at used before ns' new
     unfolding bind
-    tilded-on {inner = inner} s is p =
+    tilded_on {inner = inner} s is p =
         applies inner.at Absence s (omega arith) (omega arith) (omega arith) s.inside refl refl is p (tilded ∙ rw s.read)
 
 -- `*` AND BANDS

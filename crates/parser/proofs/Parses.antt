@@ -71,8 +71,8 @@ module _ {text : List ℕ} {channels : ℕ} (right : Long text → ⊥) where
     none_below n six seven eight m l (wrong_range f i w) = range_right e (seven l) (rw (unique f form) at i) w
     none_below n six seven eight m l (too_deep f w) = omega (arith, eight l, ap depth (unique f form))
 
-    pub refused-letter : channels < width e → DrillRefused text channels 6
-    refused-letter h =
+    pub refused_letter : channels < width e → DrillRefused text channels 6
+    refused_letter h =
         let b = letter_beyond e channels h in
         record {
           holds = wrong_letter form b.1 b.2;
@@ -80,14 +80,14 @@ module _ {text : List ℕ} {channels : ℕ} (right : Long text → ⊥) where
         }
 
     module _ (six : width e ≤ channels) where
-      pub refused-range : wrong e ≡ true → DrillRefused text channels 7
-      refused-range h =
+      pub refused_range : wrong e ≡ true → DrillRefused text channels 7
+      refused_range h =
           let b = range_wrong e h in
           record { holds = wrong_range form b.1 b.2; first = none_below 7 (λ l. six) (λ l. absurd (omega arith)) (λ l. absurd (omega arith)) }
 
       module _ (seven : wrong e ≡ false) where
-        pub refused-depth : 16 < depth e → DrillRefused text channels 8
-        refused-depth h = record { holds = too_deep form h; first = none_below 8 (λ l. six) (λ l. seven) (λ l. absurd (omega arith)) }
+        pub refused_depth : 16 < depth e → DrillRefused text channels 8
+        refused_depth h = record { holds = too_deep form h; first = none_below 8 (λ l. six) (λ l. seven) (λ l. absurd (omega arith)) }
 
         pub accepted : depth e ≤ 16 → Accepted text channels e
         accepted h = record { form = form; none = λ n c. none_below (n + 9) (λ l. six) (λ l. seven) (λ l. h) n (omega arith) c }
@@ -120,9 +120,9 @@ module _ {text before ns : List ℕ} {tree : Tree} (s : Reached (joining Union) 
       go : (a b c d : Bool) → ltb tree.at (length text) ≡ a → ltb channels tree.width ≡ b → tree.wrong ≡ c → ltb 16 tree.depth ≡ d
           → ParsedAs text channels ns (cond a NoForm (cond b WrongLetter (cond c WrongRange (cond d TooDeep (Root tree.root)))))
       go true b c d p q r t = refused_part right s.read (leaves_some (ltb-true _ _ p))
-      go false true c d p q r t = refused-letter right (whole p) (omega (arith, ltb-true channels tree.width q, s.width_is))
-      go false false true d p q r t = refused-range right (whole p) (six q) (sym s.wrong_is ∙ r)
-      go false false false true p q r t = refused-depth right (whole p) (six q) (sym s.wrong_is ∙ r) (omega (arith, s.depth_is, ltb-true 16 tree.depth t))
+      go false true c d p q r t = refused_letter right (whole p) (omega (arith, ltb-true channels tree.width q, s.width_is))
+      go false false true d p q r t = refused_range right (whole p) (six q) (sym s.wrong_is ∙ r)
+      go false false false true p q r t = refused_depth right (whole p) (six q) (sym s.wrong_is ∙ r) (omega (arith, s.depth_is, ltb-true 16 tree.depth t))
       go false false false false p q r t =
           (s.e, accepted right (whole p) (six q) (sym s.wrong_is ∙ r) (omega (arith, s.depth_is, ltb-false 16 tree.depth t)), stored_exact r)
 
@@ -135,16 +135,16 @@ answered text channels = by_length (ltb 0 (length text)) (ltb 255 (length text))
     Answer : Type 0
     Answer = ((e : Expression) × Accepted text channels e) ⊎ ((n : ℕ) × DrillRefused text channels n)
 
-    by-checks : (Long text → ⊥) → (e : Expression) → Form alternative text e → (a b c : Bool) → ltb channels (width e) ≡ a → wrong e ≡ b → ltb 16 (depth e) ≡ c → Answer
-    by-checks right e f true b c p q r = inr (6, refused-letter right f (ltb-true _ _ p))
-    by-checks right e f false true c p q r = inr (7, refused-range right f (ltb-false channels (width e) p) q)
-    by-checks right e f false false true p q r = inr (8, refused-depth right f (ltb-false channels (width e) p) q (ltb-true _ _ r))
-    by-checks right e f false false false p q r = inl (e, accepted right f (ltb-false channels (width e) p) q (ltb-false 16 (depth e) r))
+    by_checks : (Long text → ⊥) → (e : Expression) → Form alternative text e → (a b c : Bool) → ltb channels (width e) ≡ a → wrong e ≡ b → ltb 16 (depth e) ≡ c → Answer
+    by_checks right e f true b c p q r = inr (6, refused_letter right f (ltb-true _ _ p))
+    by_checks right e f false true c p q r = inr (7, refused_range right f (ltb-false channels (width e) p) q)
+    by_checks right e f false false true p q r = inr (8, refused_depth right f (ltb-false channels (width e) p) q (ltb-true _ _ r))
+    by_checks right e f false false false p q r = inl (e, accepted right f (ltb-false channels (width e) p) q (ltb-false 16 (depth e) r))
 
-    by-descent : (Long text → ⊥) → (g : Got Expression) → descent (joining Union) text ≡ g → Answer
-    by-descent right no h = inr (5, refused_stop right h)
-    by-descent right (yes e (c ∷ r)) h = inr (5, refused_part right h (omega arith))
-    by-descent right (yes e []) h = by-checks right e (whole_sound text e h) (ltb channels (width e)) (wrong e) (ltb 16 (depth e)) refl refl refl
+    by_descent : (Long text → ⊥) → (g : Got Expression) → descent (joining Union) text ≡ g → Answer
+    by_descent right no h = inr (5, refused_stop right h)
+    by_descent right (yes e (c ∷ r)) h = inr (5, refused_part right h (omega arith))
+    by_descent right (yes e []) h = by_checks right e (whole_sound text e h) (ltb channels (width e)) (wrong e) (ltb 16 (depth e)) refl refl refl
 
     by_length : (a b : Bool) → ltb 0 (length text) ≡ a → ltb 255 (length text) ≡ b → Answer
     by_length false b p q = let h = ltb-false 0 (length text) p in inr (4, refused_length (inl (omega arith)))
@@ -152,7 +152,7 @@ answered text channels = by_length (ltb 0 (length text)) (ltb 255 (length text))
     by_length true false p q =
         let h = ltb-true 0 (length text) p in
         let l = ltb-false 255 (length text) q in
-        by-descent (right_length text (λ a. omega arith) l) (descent (joining Union) text) refl
+        by_descent (right_length text (λ a. omega arith) l) (descent (joining Union) text) refl
 
 -- AND NO OTHER
 

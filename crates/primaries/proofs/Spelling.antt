@@ -68,8 +68,8 @@ module _ (bytes : List ℕ) (channel : ℕ) (level : Level) (mark : Mark) (from 
 
   module _ {cursor : Cursor} {base : ℕ} {ws₀ ws : List ℤ} {g : Growing} (s : Spelt cursor base ws₀ ws g) where
     -- no run more: all of them
-    pub spelt-all : (told : ℕ) → NextRun bytes channel level from to cursor None → Standing (Spelling mark (Shows bytes channel level) from to) told ws base g.count told
-    spelt-all told n =
+    pub spelt_all : (told : ℕ) → NextRun bytes channel level from to cursor None → Standing (Spelling mark (Shows bytes channel level) from to) told ws base g.count told
+    spelt_all told n =
         record {
           list = list_at ws base g.count;
           rounds = 0;
@@ -92,9 +92,9 @@ module _ (bytes : List ℕ) (channel : ℕ) (level : Level) (mark : Mark) (from 
         more = on (x ∷ []) ∙ ap (λ (k : MaybeZone). insert_each (k ∷ []) (list_at ws base g.count)) (sym is)
 
         -- without a mark it is passed over
-        pub spelt-skip : m ≡ empty → Spelt onward base ws₀ ws g
+        pub spelt_skip : m ≡ empty → Spelt onward base ws₀ ws g
         unfolding insert_each
-        spelt-skip e =
+        spelt_skip e =
             record {
               runs = s.runs ++ (x ∷ []);
               taken = taken_more bytes channel level from to cursor onward s.taken n;
@@ -104,8 +104,8 @@ module _ (bytes : List ℕ) (channel : ℕ) (level : Level) (mark : Mark) (from 
             }
 
         -- its mark is put
-        pub spelt-more : {vs : List ℤ} {h : Growing} → Growth (insert_each (m ∷ []) (list_at ws base g.count)) NoPair g (list_at ws base g.count) vs base h → Kept base slot_words ws vs → Spelt onward base ws₀ vs h
-        spelt-more l f =
+        pub spelt_more : {vs : List ℤ} {h : Growing} → Growth (insert_each (m ∷ []) (list_at ws base g.count)) NoPair g (list_at ws base g.count) vs base h → Kept base slot_words ws vs → Spelt onward base ws₀ vs h
+        spelt_more l f =
             record {
               runs = s.runs ++ (x ∷ []);
               taken = taken_more bytes channel level from to cursor onward s.taken n;
@@ -115,8 +115,8 @@ module _ (bytes : List ℕ) (channel : ℕ) (level : Level) (mark : Mark) (from 
             }
 
         -- or would be one too many, whatever runs come after it
-        spelling-over : insert_each (m ∷ []) (list_at ws base g.count) ≡ puts.overflow → Spelling mark (Shows bytes channel level) from to (overflow 0 0)
-        spelling-over e =
+        spelling_over : insert_each (m ∷ []) (list_at ws base g.count) ≡ puts.overflow → Spelling mark (Shows bytes channel level) from to (overflow 0 0)
+        spelling_over e =
             let all = shows_runs bytes channel level from to in
             let rest = scanned_first (taken_more bytes channel level from to cursor onward s.taken n) all in
             record {
@@ -130,8 +130,8 @@ module _ (bytes : List ℕ) (channel : ℕ) (level : Level) (mark : Mark) (from 
                   ∙ ap (λ (b : Built). then b (insert_each (map (mark_of mark to) rest.0))) (more ∙ e)));
             }
 
-        pub spelt-over : (told : ℕ) → insert_each (m ∷ []) (list_at ws base g.count) ≡ puts.overflow → Overflowed (Spelling mark (Shows bytes channel level) from to) told told
-        spelt-over told e = record { overflowing = record { opened = 0; done = 0; means = spelling-over e; within = omega arith }; spends = omega arith }
+        pub spelt_over : (told : ℕ) → insert_each (m ∷ []) (list_at ws base g.count) ≡ puts.overflow → Overflowed (Spelling mark (Shows bytes channel level) from to) told told
+        spelt_over told e = record { overflowing = record { opened = 0; done = 0; means = spelling_over e; within = omega arith }; spends = omega arith }
 
 -- a mark that words have room for
 abbrev Small : MaybeZone → Type 0

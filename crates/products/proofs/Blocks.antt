@@ -16,7 +16,7 @@ use Rattle.zone.specs.declared.MaybeZone.TheVariants.{Empty as empty}
 use Rattle.zone.specs.Zone.{Proper}
 use Rattle.words.specs.Words.{word, zone_at}
 use Rattle.touching.specs.Sharing.{Share}
-use Rattle.touching.proofs.Sharing.{share_more, Abut, compose_apart, meet_apart, touches-share}
+use Rattle.touching.proofs.Sharing.{share_more, Abut, compose_apart, meet_apart, touches_share}
 use Rattle.list.specs.Insert.{overflow, insert_each}
 use Rattle.list.specs.Slots.{list_at, Kept}
 use Rattle.list.proofs.Slots.{list_at_length, list_at_kept}
@@ -31,7 +31,7 @@ use Rattle.pairs.specs.Row.{applied, Pairing}
 use Rattle.products.specs.Steps.{ReachesAs}
 use Rattle.pairs.proofs.Zones.{still_zones, read_one}
 use Rattle.products.proofs.Hulls.{block_split, zones_block}
-use Rattle.pairs.proofs.Combining.{Combining, combining_same, combining_most, combining-on, combining-overflow, combining-past}
+use Rattle.pairs.proofs.Combining.{Combining, combining_same, combining_most, combining_on, combining_overflow, combining_past}
 
 -- ---- what a hull says
 
@@ -49,7 +49,7 @@ missed : (op : Operation) {z : Zone} → Proper 0 1_000_000 z → (s ns : ℤ) �
 missed Meet {z} p s ns n w q u = (meet_apart z w (λ h. n (share_more u.start u.nstart h)), λ f. f)
 missed Compose {z} p s ns n w q u =
     let apart : ¬ Abut z w = λ h. n (share_more u.start u.nstart h) in
-    (compose_apart z w apart, λ t. apart ((touches-share z w p.tight q.tight).0 t))
+    (compose_apart z w apart, λ t. apart ((touches_share z w p.tight q.tight).0 t))
 
 pub reaches_by : (op : Operation) {z : Zone} → Proper 0 1_000_000 z → (m : ℕ) → 16 < m → (s ns : ℤ) (r : Bool) → T r ↔ Share (upper op z) (nupper op z) (decode s) (decode ns) → ReachesAs op z m s ns r
 reaches_by op p m h s ns true f = tt
@@ -72,24 +72,24 @@ module _ {ws₀ : List ℤ} {left right m target : ℕ} {g₀ : Growing} (p : Pa
       rw (e, f)
 
   module _ {ws : List ℤ} (k : Kept target 768 ws₀ ws) (b : ℕ) (l : b * 16 < m) where
-    abbrev at-hand : List (Zone × Zone)
-    at-hand = beside (zone_at ws left) (block ws right m b)
+    abbrev at_hand : List (Zone × Zone)
+    at_hand = beside (zone_at ws left) (block ws right m b)
 
     same_block : block ws right m b ≡ block ws₀ right m b
     same_block = list_at_kept (right + b * 16 * 6) (min (m - b * 16) 16) k (zones_block p.others b l).apart
 
-    next-block : from_block b ≡ at-hand ++ from_block (b + 1)
-    next-block =
+    next_block : from_block b ≡ at_hand ++ from_block (b + 1)
+    next_block =
         ap (beside (zone_at ws₀ left)) (block_split ws₀ right m b)
         ∙ map-append (λ (y : Zone). (zone_at ws₀ left, y)) (block ws₀ right m b) (list_at ws₀ (right + (b + 1) * 16 * 6) (m - (b + 1) * 16))
         ∙ (λ i. beside (sym (read_one p.one k) i) (sym same_block i) ++ from_block (b + 1))
 
     module _ {op : Operation} {g : Growing} (c : Combining op (from_block b) all_blocks g₀ target ws₀ ws g) where
-      ahead : Combining op (at-hand ++ from_block (b + 1)) all_blocks g₀ target ws₀ ws g
-      ahead = combining_same next-block c
+      ahead : Combining op (at_hand ++ from_block (b + 1)) all_blocks g₀ target ws₀ ws g
+      ahead = combining_same next_block c
 
-      pub block-pairing : Pairing ws left (right + b * 16 * 6) (min (m - b * 16) 16) target g
-      block-pairing =
+      pub block_pairing : Pairing ws left (right + b * 16 * 6) (min (m - b * 16) 16) target g
+      block_pairing =
           record {
             one = still_zones p.one k;
             others = still_zones (zones_block p.others b l) k;
@@ -97,16 +97,16 @@ module _ {ws₀ : List ℤ} {left right m target : ℕ} {g₀ : Growing} (p : Pa
             countable = omega (arith, p.countable, combining_most c, length-map {B = Zone × Zone} (list_at ws₀ (right + b * 16 * 6) (m - b * 16)) (λ (y : Zone). (zone_at ws₀ left, y)), list_at_length ws₀ (right + b * 16 * 6) (m - b * 16), length-map {B = Zone × Zone} (list_at ws₀ right m) (λ (y : Zone). (zone_at ws₀ left, y)), list_at_length ws₀ right m);
           }
 
-      pub block_on : {vs : List ℤ} {h : Growing} → Growth (insert_each (map (applied op) at-hand) (list_at ws target g.count)) (Counted (Composed op) at-hand) g (list_at ws target g.count) vs target h → Kept target 768 ws vs → Combining op (from_block (b + 1)) all_blocks g₀ target ws₀ vs h
-      block_on w f = combining-on at-hand (from_block (b + 1)) ahead w f
+      pub block_on : {vs : List ℤ} {h : Growing} → Growth (insert_each (map (applied op) at_hand) (list_at ws target g.count)) (Counted (Composed op) at_hand) g (list_at ws target g.count) vs target h → Kept target 768 ws vs → Combining op (from_block (b + 1)) all_blocks g₀ target ws₀ vs h
+      block_on w f = combining_on at_hand (from_block (b + 1)) ahead w f
 
-      pub block-overflow : {P : Type 0} → (insert_each (map (applied op) at-hand) (list_at ws target g.count) ≡ overflow) × P → (insert_each (map (applied op) all_blocks) (list_at ws₀ target g₀.count) ≡ overflow) × P
-      block-overflow o = combining-overflow at-hand (from_block (b + 1)) ahead o
+      pub block_overflow : {P : Type 0} → (insert_each (map (applied op) at_hand) (list_at ws target g.count) ≡ overflow) × P → (insert_each (map (applied op) all_blocks) (list_at ws₀ target g₀.count) ≡ overflow) × P
+      block_overflow o = combining_overflow at_hand (from_block (b + 1)) ahead o
 
       -- the left zone reaches none of it
-      pub block-past : {hs : List ℤ} → Hulls hs ws₀ right m → ReachesAs op (zone_at ws left) m (word hs (b * 2)) (word hs (b * 2 + 1)) false → Combining op (from_block (b + 1)) all_blocks g₀ target ws₀ ws g
-      block-past h r =
-          combining-past at-hand (from_block (b + 1)) ahead
+      pub block_past : {hs : List ℤ} → Hulls hs ws₀ right m → ReachesAs op (zone_at ws left) m (word hs (b * 2)) (word hs (b * 2 + 1)) false → Combining op (from_block (b + 1)) all_blocks g₀ target ws₀ ws g
+      block_past h r =
+          combining_past at_hand (from_block (b + 1)) ahead
           (λ q i. let y = Memᴰ.of_map (λ (y : Zone). (zone_at ws left, y)) (block ws right m b) i in
           let there = subst (Memᴰ y.0) same_block y.1 in
           subst (λ (x : Zone × Zone). (applied op x ≡ empty) × (¬ Composed op x)) y.2

@@ -98,8 +98,8 @@ module _ {P Q : ℕ → Type 0} {d : ℕ} (one : (n : ℕ) → P n → Q n → �
     rising = ends_rise (min (to + 1) d) rs c.runs.each c.runs.rising;
   }
     where
-      end-event : (r : Run) → Maximal P (from - 1) (min (to + 1) d) r.start r.end → r.end < min (to + 1) d → Event P Q r.end
-      end-event r m h = record {
+      end_event : (r : Run) → Maximal P (from - 1) (min (to + 1) d) r.start r.end → r.end < min (to + 1) d → Event P Q r.end
+      end_event r m h = record {
         some = omega (arith, m.some);
         was = held;
         is = ⊎_elim (λ p. absurd (m.right h (subst P back p))) (λ q. subst Q back q) (goes (r.end - 1) held (omega (arith, m.some)));
@@ -115,7 +115,7 @@ module _ {P Q : ℕ → Type 0} {d : ℕ} (one : (n : ℕ) → P n → Q n → �
       each s n =
           let k = end_of (min (to + 1) d) rs n in
           let m = c.runs.each k.0 k.1 in
-          (omega (arith, m.lower, m.some, k.2), omega (arith, k.3), subst (Event P Q) (sym k.2) (end-event k.0 m (omega (arith, k.2, k.3))))
+          (omega (arith, m.lower, m.some, k.2), omega (arith, k.3), subst (Event P Q) (sym k.2) (end_event k.0 m (omega (arith, k.2, k.3))))
 
       ends_at : (s : ℕ) → from ≤ s → s ≤ to → Event P Q s → Memᴰ s (ends_before (min (to + 1) d) rs)
       ends_at s a b e =

@@ -229,7 +229,7 @@ pub runs_of_lem : {P : ℕ → Type 0} (test : ℕ → Bool) → ((k : ℕ) → 
 unfolding runs_of walk closed
 runs_of_lem {P} test tests from to = elim (dec_le from to) [
   | yes h ↦ walk_runs test tests (to - from) from from [] (omega arith) scanned_none (omega arith) (λ k a b. absurd (empty k a b))
-  | no h ↦ subst (λ (n : ℕ). Complete P from to (walk test n from from)) (nought h) (none-at (ltb from from) refl (scanned_all scanned_none (λ k a b _. omega arith)))
+  | no h ↦ subst (λ (n : ℕ). Complete P from to (walk test n from from)) (nought h) (none_at (ltb from from) refl (scanned_all scanned_none (λ k a b _. omega arith)))
 ]
   where
     empty : (k : ℕ) → from ≤ k → k < from → ⊥
@@ -238,9 +238,9 @@ runs_of_lem {P} test tests from to = elim (dec_le from to) [
     nought : (from ≤ to → ⊥) → 0 ≡ to - from
     nought h = omega arith
 
-    none-at : (t : Bool) → ltb from from ≡ t → Complete P from to [] → Complete P from to (cond t (run from from ∷ []) [])
-    none-at true e r = absurd (empty from (omega arith) (ltb-true from from e))
-    none-at false e r = r
+    none_at : (t : Bool) → ltb from from ≡ t → Complete P from to [] → Complete P from to (cond t (run from from ∷ []) [])
+    none_at true e r = absurd (empty from (omega arith) (ltb-true from from e))
+    none_at false e r = r
 
 -- a tick of from..to has P exactly if some run holds it
 pub covered : {P : ℕ → Type 0} {from to : ℕ} {xs : List Run} (test : ℕ → Bool) → ((k : ℕ) → (test k ≡ true) ↔ P k) → Runs P from to xs

@@ -90,8 +90,8 @@ module _ {from to : ℕ} {inner : List Zone} (proper : AllProper from to inner) 
     apart : {i j r : ℕ} {x v : Zone} → Composed inner i x → Composed inner j v → Leads inner q r v → i + r < m → ¬ T (contains x v)
     apart o g t h n = let b = leads_within o g n t in least b.0 b.1 b.2 (let f = b.4 in omega arith) b.3
 
-    again-next : {r : ℕ} {p w x k : Zone} → Tight p → Tight w → compose p w ≡ zone x → Again inner m q r x k → Again inner m q (suc r) p k
-    again-next gp gw e a = record { u = a.u; v = a.v; j = a.j; s = a.s; prefix = a.prefix; begins = extends_step gp gw e a.begins; gives = a.gives; leads = a.leads; whole = a.whole; later = omega arith }
+    again_next : {r : ℕ} {p w x k : Zone} → Tight p → Tight w → compose p w ≡ zone x → Again inner m q r x k → Again inner m q (suc r) p k
+    again_next gp gw e a = record { u = a.u; v = a.v; j = a.j; s = a.s; prefix = a.prefix; begins = extends_step gp gw e a.begins; gives = a.gives; leads = a.leads; whole = a.whole; later = omega arith }
 
     -- K: the zones that come after p. R: the inner zones that may come in p alone
     count : (K R : List Zone) {i r : ℕ} {p : Zone} → Composed inner i p → Leads inner q r p → i + r ≡ m → ((w : Zone) → Memᴰ w K → Again inner m q r p w)
@@ -108,7 +108,7 @@ module _ {from to : ℕ} {inner : List Zone} (proper : AllProper from to inner) 
       where
         again' : (k : Zone) → Memᴰ k (w ∷ K) → Again inner m q (suc r) a k
         again' k (head f) = record { u = a; v = p; j = j; s = r; prefix = o; begins = extends_refl a; gives = ap (compose a) f ∙ c; leads = t; whole = omega arith; later = omega arith }
-        again' k (tail n) = again-next (tight o) (inner_tight mw) c (again k n)
+        again' k (tail n) = again_next (tight o) (inner_tight mw) c (again k n)
 
         new : ¬ T (contains a p)
         new = apart o (extend o mw c) t (omega arith)
@@ -130,8 +130,8 @@ module _ {from to : ℕ} {inner : List Zone} (proper : AllProper from to inner) 
                 let h₃ = below s.0 (λ z mz. ⊎_elim (λ y. inl (tail y)) (λ y. ⊎_map head (λ x. x) (s.2 z y)) (split z mz)) in
                 omega arith
 
-    pub composed-bound : Composed inner m q → m ≤ length inner + (to - from)
-    composed-bound o =
+    pub composed_bound : Composed inner m q → m ≤ length inner + (to - from)
+    composed_bound o =
         let h₁ = count [] inner o (done refl) (omega arith) (λ w n. absurd (not-nil n)) (λ z n. inr n) in
         let h₂ = span_bound (composed_proper proper o) in
         omega arith
@@ -154,28 +154,28 @@ module _ {from to : ℕ} {inner : List Zone} (proper : AllProper from to inner) 
         where
           cases : Dec (suc j ≤ suc k) → suc (suc k) ≤ length inner + (to - from)
           cases (yes s) = absurd (c (reached.covers (suc j) x o s))
-          cases (no s) = let b = composed-bound (suc j) x (λ i t ot lt w. c (covered_within x t w (reached.covers i t ot (omega arith)))) o in omega arith
+          cases (no s) = let b = composed_bound (suc j) x (λ i t ot lt w. c (covered_within x t w (reached.covers i t ot (omega arith)))) o in omega arith
 
   module _ (some : from < to) where
     -- rounds that each changed something are fewer than n + (to − from): what the loop that makes the rounds ends by, and its counter's limit
-    pub after-bound : {k : ℕ} {L : List Zone} → After inner k L → suc k ≤ length inner + (to - from)
-    after-bound begin = omega arith
-    after-bound (turn a e n) = changed_bound a e n
+    pub after_bound : {k : ℕ} {L : List Zone} → After inner k L → suc k ≤ length inner + (to - from)
+    after_bound begin = omega arith
+    after_bound (turn a e n) = changed_bound a e n
 
     -- rounds that finish are at most n + (to − from), the last included
     pub rounds_bound : {r : ℕ} {F : List Zone} → Rounds inner inner (value F r) → r ≤ length inner + (to - from)
-    rounds_bound t = let b = rounds_end t in let h = after-bound b.1 in let q = b.2 in omega arith
+    rounds_bound t = let b = rounds_end t in let h = after_bound b.1 in let q = b.2 in omega arith
 
     -- and so are rounds that are begun, also up to one that overflows
     pub star_begun : {diagonal : Zone} {v : Value} → Star inner diagonal v → begun v ≤ length inner + (to - from)
     star_begun (closed t e) = rounds_bound t
     star_begun (diagonal_overflows t e) = rounds_bound t
-    star_begun (round_overflows t) = let b = rounds_overflow t in let h = after-bound b.2 in let q = b.3 in omega arith
+    star_begun (round_overflows t) = let b = rounds_overflow t in let h = after_bound b.2 in let q = b.3 in omega arith
 
     -- ---- so the rounds end
 
     exists : (left : ℕ) {k : ℕ} {L : List Zone} → After inner k L → length inner + (to - from) ≤ k + left → (v : Value) × Rounds inner L v
-    exists zero a h = absurd (let b = after-bound a in omega arith)
+    exists zero a h = absurd (let b = after_bound a in omega arith)
     exists (suc left) {L = L} a h = go (round inner L) refl (λ M e n. exists left (turn a e n) (omega arith))
       where
         go : (b : Built) → round inner L ≡ b → ((M : List Zone) → round inner L ≡ listed M → ¬ (M ≡ L) → (v : Value) × Rounds inner M v) → (v : Value) × Rounds inner L v
@@ -187,15 +187,15 @@ module _ {from to : ℕ} {inner : List Zone} (proper : AllProper from to inner) 
             cases (no n) = let t = below M e n in (with_rounds 1 t.0, more e n t.1)
 
     -- from the list after any of them on
-    pub after-exists : {k : ℕ} {L : List Zone} → After inner k L → (v : Value) × Rounds inner L v
-    after-exists a = exists (length inner + (to - from)) a (omega arith)
+    pub after_exists : {k : ℕ} {L : List Zone} → After inner k L → (v : Value) × Rounds inner L v
+    after_exists a = exists (length inner + (to - from)) a (omega arith)
 
     -- n + (to − from) rounds are enough
-    pub rounds-exist : (v : Value) × Rounds inner inner v
-    rounds-exist = after-exists begin
+    pub rounds_exist : (v : Value) × Rounds inner inner v
+    rounds_exist = after_exists begin
 
     pub star_exists : (diagonal : Zone) → (v : Value) × Star inner diagonal v
-    star_exists diagonal = go rounds-exist.0 rounds-exist.1
+    star_exists diagonal = go rounds_exist.0 rounds_exist.1
       where
         put : {r : ℕ} {F : List Zone} → Rounds inner inner (value F r) → (b : Built) → insert_each (zone diagonal ∷ []) F ≡ b → (v : Value) × Star inner diagonal v
         put {r} t (listed G) e = (value G r, closed t e)

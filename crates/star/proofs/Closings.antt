@@ -41,8 +41,8 @@ module _ {ws us : List ℤ} {list n inner m copy : ℕ} (o : Operands ws list n 
 
   -- the lists after the copy can be combined still, and the copy has the list's zones
   module _ {g : Growing} (b : Begins n g) where
-    pub round-operands : Unsurpassed g.latest → Operands us list n inner m copy g.count × Stands us copy g × (g.pairs ≡ 0)
-    round-operands u =
+    pub round_operands : Unsurpassed g.latest → Operands us list n inner m copy g.count × Stands us copy g × (g.pairs ≡ 0)
+    round_operands u =
         let few = o.lefts.list.few in
         let ready : Operands us list n inner m copy n = record { lefts = still_supply o.lefts round_kept few; rights = still_supply o.rights round_kept few } in
         (subst (Operands us list n inner m copy) (sym b.count) ready, standing_stands b u (still_slot o.lefts.slot round_kept few) (subst Sound (sym same_copy) o.lefts.list.sound), b.pairs)
@@ -54,21 +54,21 @@ module _ {ws us : List ℤ} {list n inner m copy : ℕ} (o : Operands ws list n 
     unfolding round
     round_is = rw (same_list, same_inner, copied)
 
-    pub round-overflow : {P : Type 0} → (insert_each (pairs Compose (list_at us list n) (list_at us inner m)) (list_at us copy g.count) ≡ puts.overflow) × P → (round (list_at ws inner m) (list_at ws list n) ≡ puts.overflow) × P
-    round-overflow e = (sym round_is ∙ e.0, e.1)
+    pub round_overflow : {P : Type 0} → (insert_each (pairs Compose (list_at us list n) (list_at us inner m)) (list_at us copy g.count) ≡ puts.overflow) × P → (round (list_at ws inner m) (list_at ws list n) ≡ puts.overflow) × P
+    round_overflow e = (sym round_is ∙ e.0, e.1)
 
     module _ {vs : List ℤ} {h : Growing} (w : Growth (insert_each (pairs Compose (list_at us list n) (list_at us inner m)) (list_at us copy g.count)) (Counted Touching (crossed (list_at us list n) (list_at us inner m))) g (list_at us copy g.count) vs copy h) where
       altered : Alters h.changed (list_at ws list n) w.list
       altered = w.alters (list_at ws list n) (subst (λ (t : ℕ). Alters t (list_at ws list n) (list_at us copy g.count)) (sym b.changed) copied)
 
-      pub round-pairs : Counted Touching (crossed (list_at ws list n) (list_at ws inner m)) h.pairs
-      round-pairs = rw (same_list, same_inner) at (begun_pairs b w)
+      pub round_pairs : Counted Touching (crossed (list_at ws list n) (list_at ws inner m)) h.pairs
+      round_pairs = rw (same_list, same_inner) at (begun_pairs b w)
 
-      pub round-changes : ¬ (h.changed ≡ 0) → Changes (list_at ws inner m) (list_at ws list n) vs copy h.count
-      round-changes e = record { list = w.list; value = sym round_is ∙ w.value; new = alters_changed h.changed e altered; holds = w.holds }
+      pub round_changes : ¬ (h.changed ≡ 0) → Changes (list_at ws inner m) (list_at ws list n) vs copy h.count
+      round_changes e = record { list = w.list; value = sym round_is ∙ w.value; new = alters_changed h.changed e altered; holds = w.holds }
 
       pub round_same : Kept copy 768 us vs → h.changed ≡ 0 → (round (list_at ws inner m) (list_at ws list n) ≡ listed (list_at ws list n)) × Counted Touching (crossed (list_at ws list n) (list_at ws inner m)) h.pairs × Free vs copy
-      round_same f e = (sym round_is ∙ w.value ∙ ap listed (subst (λ (t : ℕ). Alters t (list_at ws list n) w.list) e altered), round-pairs, omega (arith, o.lefts.slot.room, round_kept.same_length, f.same_length))
+      round_same f e = (sym round_is ∙ w.value ∙ ap listed (subst (λ (t : ℕ). Alters t (list_at ws list n) w.list) e altered), round_pairs, omega (arith, o.lefts.slot.room, round_kept.same_length, f.same_length))
 
 -- ---- a star: the inner list copied, the rounds, then the diagonal
 

@@ -76,8 +76,8 @@ module _ {from to : ℕ} {inner : List Zone} (proper : AllProper from to inner) 
   -- ---- the last list: compositions of at most r inner zones, r the rounds, and it covers every composition
 
   module _ {r : ℕ} {F : List Zone} (t : Rounds inner inner (value F r)) where
-    last-proper : AllProper from to F
-    last-proper = after_proper proper (rounds_end t).1
+    last_proper : AllProper from to F
+    last_proper = after_proper proper (rounds_end t).1
 
     pub last_made : (x : Zone) → Memᴰ x F → (j : ℕ) × Composed inner j x × (j ≤ r)
     last_made x m =
@@ -85,7 +85,7 @@ module _ {from to : ℕ} {inner : List Zone} (proper : AllProper from to inner) 
         let c = (after_reached b.1).made x m in
         (c.0, c.1, let q = b.2 in let h = c.2 in omega arith)
 
-    pub last-covers : {j : ℕ} {x : Zone} → Composed inner j x → Covered x F
-    last-covers o =
+    pub last_covers : {j : ℕ} {x : Zone} → Composed inner j x → Covered x F
+    last_covers o =
         let b = rounds_end t in
-        closed last-proper (λ z m. (after_reached b.1).covers 1 z (single m) (omega arith)) (round_puts inner F b.3) o
+        closed last_proper (λ z m. (after_reached b.1).covers 1 z (single m) (omega arith)) (round_puts inner F b.3) o

@@ -15,7 +15,7 @@ use Rattle.star.specs.Pieces.{Pieces, Pieces.none, Pieces.more}
 use Rattle.list.specs.Members.{Lies, AllProper}
 use Rattle.list.proofs.Coverage.{puts, puts_lies, covered_lies}
 use Rattle.star.proofs.Rounds.{star_rounds}
-use Rattle.star.proofs.Composed.{Composed, Composed.single, Composed.extend, composed_proper, last_made, last-covers}
+use Rattle.star.proofs.Composed.{Composed, Composed.single, Composed.extend, composed_proper, last_made, last_covers}
 use Rattle.list.proofs.Members.{lies, offered_one}
 
 -- ---- the pieces of a star
@@ -43,16 +43,16 @@ module _ {from to : ℕ} {inner : List Zone} (proper : AllProper from to inner) 
 
   module _ {diagonal : Zone} {r : ℕ} {G : List Zone} (s : Star inner diagonal (value G r)) (x y : Time) where
     -- in a star's list lie the stretches of the rounds' last list and of the diagonal
-    star-parts : Lies G x y ↔ (Lies (star_rounds s).0 x y ⊎ In diagonal x y)
-    star-parts = let b = star_rounds s in Iff.trans (puts_lies (puts (zone diagonal ∷ []) b.0 b.2) x y) (⊎_map (λ l. l) (offered_one diagonal x y).0, ⊎_map (λ l. l) (offered_one diagonal x y).1)
+    star_parts : Lies G x y ↔ (Lies (star_rounds s).0 x y ⊎ In diagonal x y)
+    star_parts = let b = star_rounds s in Iff.trans (puts_lies (puts (zone diagonal ∷ []) b.0 b.2) x y) (⊎_map (λ l. l) (offered_one diagonal x y).0, ⊎_map (λ l. l) (offered_one diagonal x y).1)
 
     -- a stretch in the list is cut into at most as many pieces as there were rounds
-    pub star-cut : (In diagonal x y → x ≈ᵀ y) → Lies G x y → (n : ℕ) × (n ≤ r) × Pieces (Lies inner) n x y
-    star-cut point l = ⊎_elim cut (λ i. (0, omega arith, none (point i))) (star-parts.0 l)
+    pub star_cut : (In diagonal x y → x ≈ᵀ y) → Lies G x y → (n : ℕ) × (n ≤ r) × Pieces (Lies inner) n x y
+    star_cut point l = ⊎_elim cut (λ i. (0, omega arith, none (point i))) (star_parts.0 l)
       where
         cut : Lies (star_rounds s).0 x y → (n : ℕ) × (n ≤ r) × Pieces (Lies inner) n x y
         cut k = let c = last_made proper (star_rounds s).1 k.in_zone k.among in (c.0, c.2, composed_pieces c.1 x y k.member)
 
     -- a stretch that is cut into pieces lies in the list
-    pub star-glue : (x ≈ᵀ y → In diagonal x y) → {n : ℕ} → Pieces (Lies inner) n x y → Lies G x y
-    star-glue point p = star-parts.1 (⊎_elim (λ e. inr (point e)) (λ c. inl (covered_lies (last-covers proper (star_rounds s).1 c.2) c.3)) (pieces_composed p))
+    pub star_glue : (x ≈ᵀ y → In diagonal x y) → {n : ℕ} → Pieces (Lies inner) n x y → Lies G x y
+    star_glue point p = star_parts.1 (⊎_elim (λ e. inr (point e)) (λ c. inl (covered_lies (last_covers proper (star_rounds s).1 c.2) c.3)) (pieces_composed p))

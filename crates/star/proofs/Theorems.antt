@@ -16,15 +16,15 @@ use Rattle.list.specs.Members.{Lies, AllProper}
 use Rattle.star.proofs.Rounds as rounds
 use Rattle.star.proofs.Rounds.{rounds_end, star_rounds, after_proper, after_antichain, after_length}
 use Rattle.star.proofs.Bound as bound
-use Rattle.star.proofs.Members.{star-cut, star-glue}
+use Rattle.star.proofs.Members.{star_cut, star_glue}
 use Rattle.list.proofs.Theorems.{one_proper, each_proper, each_antichain, each_length, WellFormed}
 
 module _ {from to : ℕ} {inner : List Zone} {r : ℕ} {G : List Zone} (s : Star inner (diagonal from to) (value G r)) where
   -- `*`: some number of consecutive pieces that each lie in the inner list, without bound, zero (start = end) included
   pub star_lies : AllProper from to inner → (x y : Time) → at_tick from ≤ᵀ x → y ≤ᵀ at_tick to → Lies G x y ↔ ((n : ℕ) × Pieces (Lies inner) n x y)
   star_lies h x y a b = (
-    λ l. let c = star-cut h s x y (λ i. ((diagonal_members from to x y).0 i).1) l in (c.0, c.2),
-    λ p. star-glue h s x y (λ e. (diagonal_members from to x y).1 (a, e, b)) p.1,
+    λ l. let c = star_cut h s x y (λ i. ((diagonal_members from to x y).0 i).1) l in (c.0, c.2),
+    λ p. star_glue h s x y (λ e. (diagonal_members from to x y).1 (a, e, b)) p.1,
   )
 
   pub star_well : from ≤ to → WellFormed from to inner → WellFormed from to G
@@ -67,5 +67,5 @@ module _ {from to : ℕ} {inner : List Zone} (proper : AllProper from to inner) 
   -- into none
   pub star_pieces : {r : ℕ} {G : List Zone} → Star inner (diagonal from to) (value G r) → (x y : Time) → Lies G x y → (n : ℕ) × (n ≤ length inner + (to - from)) × Pieces (Lies inner) n x y
   star_pieces s x y l =
-      let c = star-cut proper s x y (λ i. ((diagonal_members from to x y).0 i).1) l in
+      let c = star_cut proper s x y (λ i. ((diagonal_members from to x y).0 i).1) l in
       (c.0, let h = c.1 in let b = star_bound s in omega arith, c.2)

@@ -142,13 +142,13 @@ module _ (text : List ℕ) (at : ℕ) (more : starts 125 (drop at text) ≡ fals
 
   -- hi ends at b
   module _ {b : ℕ} {w : End} (m : Got-at bound capped_end text at b w) where
-    pub upper-unclosed : starts 125 (drop b text) ≡ false → upper_end (drop at text) ≡ no
+    pub upper_unclosed : starts 125 (drop b text) ≡ false → upper_end (drop at text) ≡ no
     unfolding bind expect branch
-    upper-unclosed e = upper_is ∙ rw m.read (rw e)
+    upper_unclosed e = upper_is ∙ rw m.read (rw e)
 
-    pub upper-closed : starts 125 (drop b text) ≡ true → b < length text → Got-at upper_end capped_upper text at (b + 1) (UpTo w)
+    pub upper_closed : starts 125 (drop b text) ≡ true → b < length text → Got-at upper_end capped_upper text at (b + 1) (UpTo w)
     unfolding bind expect branch
-    upper-closed e h =
+    upper_closed e h =
         record {
           ahead = omega (arith, m.ahead);
           inside = omega arith;
@@ -169,21 +169,21 @@ module _ {text : List ℕ} {at a : ℕ} {v : End} (n : Got-at bound capped_end t
 
   -- the comma is there
   module _ (comma : starts 44 (drop a text) ≡ true) (inside : a < length text) where
-    range-on : limits (drop at text) ≡ bind (upper_end (drop (a + 1) text)) (λ u p. yes (record { lo = n.x; hi = u }) p)
+    range_on : limits (drop at text) ≡ bind (upper_end (drop (a + 1) text)) (λ u p. yes (record { lo = n.x; hi = u }) p)
     unfolding limits bind expect branch
-    range-on = rw n.read (rw (comma, rest_drop text a inside))
+    range_on = rw n.read (rw (comma, rest_drop text a inside))
 
-    pub range-open : upper_end (drop (a + 1) text) ≡ no → limits (drop at text) ≡ no
+    pub range_open : upper_end (drop (a + 1) text) ≡ no → limits (drop at text) ≡ no
     unfolding bind
-    range-open e = range-on ∙ rw e
+    range_open e = range_on ∙ rw e
 
-    pub range-is : {b : ℕ} {u : Upper} → Got-at upper_end capped_upper text (a + 1) b u → Got-at limits capped_range text at b (record { lo = v; hi = u })
+    pub range_is : {b : ℕ} {u : Upper} → Got-at upper_end capped_upper text (a + 1) b u → Got-at limits capped_range text at b (record { lo = v; hi = u })
     unfolding bind
-    range-is u =
+    range_is u =
         record {
           ahead = omega (arith, n.ahead, u.ahead);
           inside = u.inside;
           x = record { lo = n.x; hi = u.x };
           is = rw (n.is, u.is);
-          read = range-on ∙ rw u.read;
+          read = range_on ∙ rw u.read;
         }

@@ -75,20 +75,20 @@ module _ (text : List ℕ) (at : ℕ) where
 
   -- x is the byte there, and y the first byte that counts
   module _ (first count : ℕ) {x y : ℕ} (inside : at < length text) (is : x ≡ get_or text at 0) (from : y ≡ first) where
-    pub offset-low : x < y → ranged first count (drop at text) ≡ no
+    pub offset_low : x < y → ranged first count (drop at text) ≡ no
     unfolding ranged branch
-    offset-low h = let l : get_or text at 0 < first = omega arith in rw (head text at inside, lt-ltb _ _ l)
+    offset_low h = let l : get_or text at 0 < first = omega arith in rw (head text at inside, lt-ltb _ _ l)
 
-    pub offset-high : y ≤ x → count ≤ x - y → ranged first count (drop at text) ≡ no
+    pub offset_high : y ≤ x → count ≤ x - y → ranged first count (drop at text) ≡ no
     unfolding ranged branch
-    offset-high h k =
+    offset_high h k =
         let l : first ≤ get_or text at 0 = omega arith in
         let m : count ≤ get_or text at 0 - first = omega arith in
         rw (head text at inside, le-ltb _ _ l, le-ltb _ _ m)
 
-    pub offset-by : y ≤ x → x - y < count → Offset-at first count text at (x - y)
+    pub offset_by : y ≤ x → x - y < count → Offset-at first count text at (x - y)
     unfolding ranged branch
-    offset-by h k =
+    offset_by h k =
         let l : first ≤ get_or text at 0 = omega arith in
         let m : get_or text at 0 - first < count = omega arith in
         record { inside = inside; small = k; read = rw (head text at inside, le-ltb _ _ l, lt-ltb _ _ m, is, from) }

@@ -20,13 +20,13 @@ module _ (text : List ℕ) (at : ℕ) where
   low_is m l = record { ahead = omega arith; read = rw (m, rest_drop text at l) }
 
   module _ (m : starts 33 (drop at text) ≡ false) where
-    pub rise-is : starts 43 (drop at text) ≡ true → at < length text → Signed-at text at (at + 1) Rise
+    pub rise_is : starts 43 (drop at text) ≡ true → at < length text → Signed-at text at (at + 1) Rise
     unfolding signed branch
-    rise-is n l = record { ahead = omega arith; read = rw (m, n, rest_drop text at l) }
+    rise_is n l = record { ahead = omega arith; read = rw (m, n, rest_drop text at l) }
 
-    pub fall-is : starts 43 (drop at text) ≡ false → starts 45 (drop at text) ≡ true → at < length text → Signed-at text at (at + 1) Fall
+    pub fall_is : starts 43 (drop at text) ≡ false → starts 45 (drop at text) ≡ true → at < length text → Signed-at text at (at + 1) Fall
     unfolding signed branch
-    fall-is n o l = record { ahead = omega arith; read = rw (m, n, o, rest_drop text at l) }
+    fall_is n o l = record { ahead = omega arith; read = rw (m, n, o, rest_drop text at l) }
 
     pub unsigned : starts 43 (drop at text) ≡ false → starts 45 (drop at text) ≡ false → Signed-at text at at High
     unfolding signed branch
@@ -34,13 +34,13 @@ module _ (text : List ℕ) (at : ℕ) where
 
   -- a sign, and then a letter or none
   module _ {a : ℕ} {s : Sign} (g : Signed-at text at a s) where
-    pub no-letter : ranged 97 16 (drop a text) ≡ no → lettered (drop at text) ≡ no
+    pub no_letter : ranged 97 16 (drop a text) ≡ no → lettered (drop at text) ≡ no
     unfolding bind
-    no-letter e = rw (g.read, e)
+    no_letter e = rw (g.read, e)
 
-    pub letter-is : {k : ℕ} → Offset-at 97 16 text a k → Letter-at text at (a + 1) s k
+    pub letter_is : {k : ℕ} → Offset-at 97 16 text a k → Letter-at text at (a + 1) s k
     unfolding bind
-    letter-is o =
+    letter_is o =
         record { ahead = omega (arith, g.ahead); inside = omega (arith, o.inside); small = o.small; read = rw (g.read, o.read) }
 
   pub star_is : starts 42 (drop at text) ≡ true → at < length text → Got-at postfix capped_unary text at (at + 1) Star
@@ -49,17 +49,17 @@ module _ (text : List ℕ) (at : ℕ) where
 
   -- no `*`
   module _ (m : starts 42 (drop at text) ≡ false) where
-    pub no-operator : starts 123 (drop at text) ≡ false → postfix (drop at text) ≡ no
+    pub no_operator : starts 123 (drop at text) ≡ false → postfix (drop at text) ≡ no
     unfolding branch
-    no-operator e = rw (m, e)
+    no_operator e = rw (m, e)
 
     -- a brace
     module _ (m' : starts 123 (drop at text) ≡ true) (l : at < length text) where
-      pub no-band : limits (drop (at + 1) text) ≡ no → postfix (drop at text) ≡ no
+      pub no_band : limits (drop (at + 1) text) ≡ no → postfix (drop at text) ≡ no
       unfolding branch bind
-      no-band e = rw (m, m', rest_drop text at l, e)
+      no_band e = rw (m, m', rest_drop text at l, e)
 
-      pub band-is : {b : ℕ} {r : Range} → Got-at limits capped_range text (at + 1) b r → Got-at postfix capped_unary text at b (Band r)
+      pub band_is : {b : ℕ} {r : Range} → Got-at limits capped_range text (at + 1) b r → Got-at postfix capped_unary text at b (Band r)
       unfolding branch bind
-      band-is x =
+      band_is x =
           record { ahead = omega (arith, x.ahead); inside = x.inside; x = Band x.x; is = ap Band x.is; read = rw (m, m', rest_drop text at l, x.read) }

@@ -77,8 +77,8 @@ module _ (z w : Zone) where
         let c = compose_cut h k (composed s) m.0 m.1 m.2 in
         (m.0, c.0, m.1, c.1, c.2)
 
-    pub touches-share : Touches z w ↔ Abut
-    touches-share = (λ t. go t abut?, cut)
+    pub touches_share : Touches z w ↔ Abut
+    touches_share = (λ t. go t abut?, cut)
       where
         go : Touches z w → Dec Abut → Abut
         go t (yes s) = s

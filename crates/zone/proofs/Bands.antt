@@ -52,9 +52,9 @@ module _ (from to : ℕ) (longest shortest : Limit) where
     wide : nought ≤ᴸ most to ⊕ least from
     wide = ≤_trans long longest_is
 
-    tighter-is : shifted lengths ≡ tighter lengths
+    tighter_is : shifted lengths ≡ tighter lengths
     unfolding tighter limited everything
-    tighter-is i =
+    tighter_is i =
         record {
           start = lesser (most to) (lengths.nlength ⊕ most to);
           nstart = sym (lesser_is_l (≤_trans (⊕-nought (least from)) (⊕-mono (≤-refl _) long))) i;
@@ -73,12 +73,12 @@ module _ (from to : ℕ) (longest shortest : Limit) where
     unfolding limited everything
     ends = lesser_of (λ l. nought ≤ᴸ most to ⊕ l) wide (rw (← ⊕-assoc (most to) (least from) lengths.nlength) (≤_trans some (⊕-mono longest_is (≤-refl _))))
 
-    pub some-length : zone (shifted lengths) ≡ band from to longest shortest
+    pub some_length : zone (shifted lengths) ≡ band from to longest shortest
     unfolding band checked
-    some-length =
+    some_length =
         let t = shifted lengths in
         let P : MaybeZone → Type 0 = λ a. zone t ≡ a in
-        tighten_checked lengths tighter-is
+        tighten_checked lengths tighter_is
         (room_is t.start t.nstart _ P
         (λ _. room_is t.end t.nend _ P
         (λ _. room_is t.length t.nlength (zone t) P (λ _. refl) (λ n. absurd (n some)))

@@ -131,9 +131,9 @@ module _ (from to : ℕ) where
   -- ---- a band
 
   module _ (longest shortest : Limit) where
-    limited-in : (z : Zone) (x y : Time) → In (limited z longest shortest) x y ↔ (In z x y × Within longest y x × Within shortest x y)
+    limited_in : (z : Zone) (x y : Time) → In (limited z longest shortest) x y ↔ (In z x y × Within longest y x × Within shortest x y)
     unfolding limited
-    limited-in z x y = (
+    limited_in z x y = (
       λ h. (
         record { start = h.start; nstart = h.nstart; end = h.end; nend = h.nend; length = within_widen y x (lesser_l _ _) h.length; nlength = within_widen x y (lesser_l _ _) h.nlength },
         within_widen y x (lesser_r z.length longest) h.length,
@@ -153,12 +153,12 @@ module _ (from to : ℕ) where
     unfolding band
     band_members x y =
         let t = tighten_is x y (limited (everything from to) longest shortest) in
-        let l = limited-in (everything from to) x y in
+        let l = limited_in (everything from to) x y in
         let e = everything_members x y in (
           λ h. let k = l.0 (t.0 h) in (e.0 k.0, k.1, k.2),
           λ h. t.1 (l.1 (e.1 h.0, h.1, h.2)),
         )
 
-    pub band-closed : ClosedMaybe (band from to longest shortest)
+    pub band_closed : ClosedMaybe (band from to longest shortest)
     unfolding band
-    band-closed = tighten_tight (limited (everything from to) longest shortest) (unfold limited everything up dn un in lin_le (let n = neg (pos from) in omega arith)) (unfold limited everything in lesser_l nought shortest)
+    band_closed = tighten_tight (limited (everything from to) longest shortest) (unfold limited everything up dn un in lin_le (let n = neg (pos from) in omega arith)) (unfold limited everything in lesser_l nought shortest)

@@ -8,7 +8,7 @@ use Rattle.zone.proofs.Tighten.{tighten_is, tighten_tight, meet_is, meet_tight}
 use Rattle.zone.proofs.Compose.{compose_is}
 use Rattle.zone.proofs.Across.{compose_tight}
 use Rattle.zone.proofs.Tight.{tight_is, tight_maybe, inclusion_is, contains-⊑}
-use Rattle.zone.proofs.Begin.{run_members, run_closed, diagonal_members, diagonal_closed, everything_members, everything_closed, band_members, band-closed}
+use Rattle.zone.proofs.Begin.{run_members, run_closed, diagonal_members, diagonal_closed, everything_members, everything_closed, band_members, band_closed}
 
 -- ---- the operations
 
@@ -48,4 +48,4 @@ module _ (from to : ℕ) where
   pub band_means : (longest shortest : Limit) {r : MaybeZone} → r ≡ band from to longest shortest → IsBand from to longest shortest r
   band_means longest shortest e =
       subst (IsBand from to longest shortest) (sym e)
-      (record { members = band_members from to longest shortest; tight = tight_maybe (band from to longest shortest) (band-closed from to longest shortest) })
+      (record { members = band_members from to longest shortest; tight = tight_maybe (band from to longest shortest) (band_closed from to longest shortest) })

@@ -32,16 +32,16 @@ pub ranged_tighter : {n : ℕ} (z : Zone) → Ranged n z → Ranged (suc (n + n)
 unfolding tighter
 ranged_tighter {n} z h =
     record {
-      start = or-sum z.start z.nlength z.end h.start h.nlength h.end;
-      nstart = or-sum z.nstart z.nend z.length h.nstart h.nend h.length;
-      end = or-sum z.end z.length z.start h.end h.length h.start;
-      nend = or-sum z.nend z.nstart z.nlength h.nend h.nstart h.nlength;
-      length = or-sum z.length z.end z.nstart h.length h.end h.nstart;
-      nlength = or-sum z.nlength z.start z.nend h.nlength h.start h.nend;
+      start = or_sum z.start z.nlength z.end h.start h.nlength h.end;
+      nstart = or_sum z.nstart z.nend z.length h.nstart h.nend h.length;
+      end = or_sum z.end z.length z.start h.end h.length h.start;
+      nend = or_sum z.nend z.nstart z.nlength h.nend h.nstart h.nlength;
+      length = or_sum z.length z.end z.nstart h.length h.end h.nstart;
+      nlength = or_sum z.nlength z.start z.nend h.nlength h.start h.nend;
     }
   where
-    or-sum : (l a b : Limit) → Small n l → Small n a → Small n b → Small (suc (n + n)) (lesser l (a ⊕ b))
-    or-sum l a b s p q = lesser_of (Small (suc (n + n))) (small_more l (omega arith) s) (small_sum a b p q)
+    or_sum : (l a b : Limit) → Small n l → Small n a → Small n b → Small (suc (n + n)) (lesser l (a ⊕ b))
+    or_sum l a b s p q = lesser_of (Small (suc (n + n))) (small_more l (omega arith) s) (small_sum a b p q)
 
 pub ranged_limited : {n : ℕ} (z : Zone) (l s : Limit) → Ranged n z → Small n l → Small n s → Ranged n (limited z l s)
 unfolding limited

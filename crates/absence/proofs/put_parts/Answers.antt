@@ -1,5 +1,5 @@
 use Rattle.std.proofs.Common.{sym, subst, ◌∙◌, arith, rules}
-use Rattle.absence.proofs.Cutting.{Cutting, spent, listable, cutting_start, cutting-on, cutting-overflow, cutting_spent, cutting_end}
+use Rattle.absence.proofs.Cutting.{Cutting, spent, listable, cutting_start, cutting_on, cutting_overflow, cutting_spent, cutting_end}
 use Rattle.list.proofs.Puts.{held}
 use Rattle.list.proofs.Slots.{kept_trans}
 use Rattle.words.specs.Words.{zone_at}
@@ -35,7 +35,7 @@ shape_of-words-in_default c = c.put_left.ensures.kept.same_length ∙ c.loop-k.i
 pub returns-in_default : goal.returns-in_default
 returns-in_default c =
     let turn = c.loop-k.invariant.0 in record {
-      grown = cutting-overflow turn (omega (arith, c.loop-k-test.true)) c.part-part.ensures.value (rw c.in_default.is at c.put_left.ensures.grown);
+      grown = cutting_overflow turn (omega (arith, c.loop-k-test.true)) c.part-part.ensures.value (rw c.in_default.is at c.put_left.ensures.grown);
       kept = kept_trans turn.going.frame c.put_left.ensures.kept;
     }
 
@@ -54,7 +54,7 @@ shape_of-words-then-not-has_room c = c.put_left.ensures.kept.same_length ∙ c.l
 pub returns-then-not-has_room : goal.returns-then-not-has_room
 returns-then-not-has_room c =
     let turn = c.loop-k.invariant.0 in record {
-      grown = cutting_spent (cutting-on turn (omega (arith, c.loop-k-test.true)) c.part-part.ensures.value c.part-part.ensures.meaning (rw c.in-Grew.is at c.put_left.ensures.grown) c.put_left.ensures.kept c.keep.ensures.value c.keep.ensures.meaning) c.requires.3 (spent _ c.has_room.result c.has_room.ensures.meaning c.if-not-has_room.true);
+      grown = cutting_spent (cutting_on turn (omega (arith, c.loop-k-test.true)) c.part-part.ensures.value c.part-part.ensures.meaning (rw c.in-Grew.is at c.put_left.ensures.grown) c.put_left.ensures.kept c.keep.ensures.value c.keep.ensures.meaning) c.requires.3 (spent _ c.has_room.result c.has_room.ensures.meaning c.if-not-has_room.true);
       kept = kept_trans turn.going.frame c.put_left.ensures.kept;
     }
 
@@ -66,7 +66,7 @@ loop-k-smaller c = search rules
 
 pub loop-k-preserved : goal.loop-k-preserved
 loop-k-preserved c =
-    (cutting-on c.loop-k.invariant.0 (omega (arith, c.loop-k-test.true)) c.part-part.ensures.value c.part-part.ensures.meaning (rw c.in-Grew.is at c.put_left.ensures.grown) c.put_left.ensures.kept c.keep.ensures.value c.keep.ensures.meaning, search rules)
+    (cutting_on c.loop-k.invariant.0 (omega (arith, c.loop-k-test.true)) c.part-part.ensures.value c.part-part.ensures.meaning (rw c.in-Grew.is at c.put_left.ensures.grown) c.put_left.ensures.kept c.keep.ensures.value c.keep.ensures.meaning, search rules)
 
 pub shape_of-words : goal.shape_of-words
 shape_of-words c = c.loop-k.invariant.0.going.frame.same_length

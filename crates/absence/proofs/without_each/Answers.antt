@@ -1,5 +1,5 @@
 use Rattle.std.proofs.Common.{arith, rules}
-use Rattle.absence.proofs.Alternating.{alternating_start, next-ready, alternating-kept, alternating-overflow, alternating-on, bring_ready, alternating_end}
+use Rattle.absence.proofs.Alternating.{alternating_start, next_ready, alternating_kept, alternating_overflow, alternating_on, bring_ready, alternating_end}
 use Rattle.absence.proofs.without_each.Goals as goal
 
 pub overflow_add-first : goal.overflow_add-first
@@ -18,21 +18,21 @@ pub overflow_add-base : goal.overflow_add-base
 overflow_add-base c = omega (arith, c.requires.room, c.requires.list.few, c.loop-i-test.true)
 
 pub without-requires : goal.without-requires
-without-requires c = next-ready c.requires c.loop-i.invariant c.loop-i-test.true
+without-requires c = next_ready c.requires c.loop-i.invariant c.loop-i-test.true
 
 pub shape_of-words-in_default : goal.shape_of-words-in_default
 shape_of-words-in_default c =
-    (alternating-kept c.requires c.loop-i.invariant c.loop-i-test.true c.without.ensures.kept).same_length
+    (alternating_kept c.requires c.loop-i.invariant c.loop-i-test.true c.without.ensures.kept).same_length
 
 pub returns-in_default : goal.returns-in_default
 returns-in_default c = record {
-  built = alternating-overflow c.requires c.loop-i.invariant c.loop-i-test.true c.without.ensures.kept (rw c.in_default.is at c.without.ensures.built);
-  kept = alternating-kept c.requires c.loop-i.invariant c.loop-i-test.true c.without.ensures.kept;
+  built = alternating_overflow c.requires c.loop-i.invariant c.loop-i-test.true c.without.ensures.kept (rw c.in_default.is at c.without.ensures.built);
+  kept = alternating_kept c.requires c.loop-i.invariant c.loop-i-test.true c.without.ensures.kept;
 }
 
 pub loop-i-preserved : goal.loop-i-preserved
 loop-i-preserved c =
-    alternating-on c.requires c.loop-i.invariant c.loop-i-test.true c.without.ensures.kept (rw c.in-Count.is at c.without.ensures.built)
+    alternating_on c.requires c.loop-i.invariant c.loop-i-test.true c.without.ensures.kept (rw c.in-Count.is at c.without.ensures.built)
 
 pub bring-requires : goal.bring-requires
 bring-requires c = bring_ready c.requires c.loop-i.invariant

@@ -8,24 +8,24 @@ use Rattle.evaluation.proofs.Evaluator.{
   roomy,
   rest_falls,
   rest_few,
-  room-left,
-  room-right,
-  room-three,
-  room-second,
-  kept-left,
-  kept-right,
-  kept-three,
+  room_left,
+  room_right,
+  room_three,
+  room_second,
+  kept_left,
+  kept_right,
+  kept_three,
   kept_one,
-  only-operand,
-  left-operand,
+  only_operand,
+  left_operand,
   left_there,
   right_operand,
   leaf_done,
-  one-stops,
-  one-done,
-  left-stops,
-  right-stops,
-  two-done,
+  one_stops,
+  one_done,
+  left_stops,
+  right_stops,
+  two_done,
 }
 use Rattle.evaluation.proofs.+evaluate.Goals as goal
 
@@ -48,7 +48,7 @@ literal-requires t c =
 pub evaluate-only-requires : goal.evaluate-only-requires
 evaluate-only-requires t c =
     let s = node_is _ c.node_at.ensures c.in-Applied.is c.requires.1.planted in
-    (rest_falls (planted_some c.requires.1.planted) c.decreases, (c.requires.0, record { expression = s.0; planted = s.3 }, rest_few c.requires.2, room-left (planted_some c.requires.1.planted) _ c.requires.3))
+    (rest_falls (planted_some c.requires.1.planted) c.decreases, (c.requires.0, record { expression = s.0; planted = s.3 }, rest_few c.requires.2, room_left (planted_some c.requires.1.planted) _ c.requires.3))
 
 pub shape_of-work-in_default : goal.shape_of-work-in_default
 shape_of-work-in_default t c =
@@ -60,20 +60,20 @@ returns-in_default t c =
       value =
           λ e p.
           let s = node_is _ c.node_at.ensures c.in-Applied.is p in
-          one-stops c.requires.0 s.0 c.in-Applied.op s.1 _ _ _ c.evaluate-only.result _ _ c.in_default.not-Listed (c.evaluate-only.ensures.value s.0 s.3);
-      kept = kept-left (planted_some c.requires.1.planted) _ c.evaluate-only.ensures.kept;
+          one_stops c.requires.0 s.0 c.in-Applied.op s.1 _ _ _ c.evaluate-only.result _ _ c.in_default.not-Listed (c.evaluate-only.ensures.value s.0 s.3);
+      kept = kept_left (planted_some c.requires.1.planted) _ c.evaluate-only.ensures.kept;
     }
 
 pub apply-requires : goal.apply-requires
 apply-requires t c =
     let s = node_is _ c.node_at.ensures c.in-Applied.is c.requires.1.planted in
     let v = rw c.in-Listed.is at (c.evaluate-only.ensures.value s.0 s.3) in
-    (only-operand c.requires.0 s.0 v (roomy c.evaluate-only.ensures.kept (room-three (planted_some c.requires.1.planted) _ c.requires.3)), looks_ticks c.requires.0, s.2)
+    (only_operand c.requires.0 s.0 v (roomy c.evaluate-only.ensures.kept (room_three (planted_some c.requires.1.planted) _ c.requires.3)), looks_ticks c.requires.0, s.2)
 
 pub evaluate-first-requires : goal.evaluate-first-requires
 evaluate-first-requires t c =
     let s = node_is _ c.node_at.ensures c.in-Infix.is c.requires.1.planted in
-    (rest_falls (planted_some c.requires.1.planted) c.decreases, (c.requires.0, record { expression = s.0; planted = s.3 }, rest_few c.requires.2, room-left (planted_some c.requires.1.planted) _ c.requires.3))
+    (rest_falls (planted_some c.requires.1.planted) c.decreases, (c.requires.0, record { expression = s.0; planted = s.3 }, rest_few c.requires.2, room_left (planted_some c.requires.1.planted) _ c.requires.3))
 
 pub shape_of-work-in_default-first : goal.shape_of-work-in_default-first
 shape_of-work-in_default-first t c =
@@ -85,8 +85,8 @@ returns-in_default-first t c =
       value =
           λ e p.
           let s = node_is _ c.node_at.ensures c.in-Infix.is p in
-          left-stops c.requires.0 s.0 s.1 c.in-Infix.op s.2 _ _ _ c.evaluate-first.result _ _ c.in_default-first.not-Listed (c.evaluate-first.ensures.value s.0 s.3);
-      kept = kept-left (planted_some c.requires.1.planted) _ c.evaluate-first.ensures.kept;
+          left_stops c.requires.0 s.0 s.1 c.in-Infix.op s.2 _ _ _ c.evaluate-first.result _ _ c.in_default-first.not-Listed (c.evaluate-first.ensures.value s.0 s.3);
+      kept = kept_left (planted_some c.requires.1.planted) _ c.evaluate-first.ensures.kept;
     }
 
 pub overflow_add-next : goal.overflow_add-next
@@ -96,7 +96,7 @@ overflow_add-next t c =
 pub evaluate-second-requires : goal.evaluate-second-requires
 evaluate-second-requires t c =
     let s = node_is _ c.node_at.ensures c.in-Infix.is c.requires.1.planted in
-    (rest_falls (planted_some c.requires.1.planted) c.decreases, (c.requires.0, record { expression = s.1; planted = s.4 }, rest_few c.requires.2, roomy c.evaluate-first.ensures.kept (room-right (planted_some c.requires.1.planted) _ c.requires.3)))
+    (rest_falls (planted_some c.requires.1.planted) c.decreases, (c.requires.0, record { expression = s.1; planted = s.4 }, rest_few c.requires.2, roomy c.evaluate-first.ensures.kept (room_right (planted_some c.requires.1.planted) _ c.requires.3)))
 
 pub shape_of-work-in_default-second : goal.shape_of-work-in_default-second
 shape_of-work-in_default-second t c =
@@ -109,8 +109,8 @@ returns-in_default-second t c =
           λ e p.
           let s = node_is _ c.node_at.ensures c.in-Infix.is p in
           let v = rw c.in-Listed-first.is at (c.evaluate-first.ensures.value s.0 s.3) in
-          right-stops c.requires.0 s.0 s.1 c.in-Infix.op s.2 _ _ _ c.evaluate-second.result v _ _ c.in_default-second.not-Listed (c.evaluate-second.ensures.value s.1 s.4);
-      kept = kept_trans (kept-left (planted_some c.requires.1.planted) _ c.evaluate-first.ensures.kept) (kept-right (planted_some c.requires.1.planted) _ c.evaluate-second.ensures.kept);
+          right_stops c.requires.0 s.0 s.1 c.in-Infix.op s.2 _ _ _ c.evaluate-second.result v _ _ c.in_default-second.not-Listed (c.evaluate-second.ensures.value s.1 s.4);
+      kept = kept_trans (kept_left (planted_some c.requires.1.planted) _ c.evaluate-first.ensures.kept) (kept_right (planted_some c.requires.1.planted) _ c.evaluate-second.ensures.kept);
     }
 
 pub combine-requires : goal.combine-requires
@@ -118,8 +118,8 @@ combine-requires t c =
     let s = node_is _ c.node_at.ensures c.in-Infix.is c.requires.1.planted in
     let v = rw c.in-Listed-first.is at (c.evaluate-first.ensures.value s.0 s.3) in
     let w = rw c.in-Listed-second.is at (c.evaluate-second.ensures.value s.1 s.4) in (
-      left-operand c.requires.0 s.0 v _ c.evaluate-second.ensures.kept (roomy c.evaluate-first.ensures.kept (room-three (planted_some c.requires.1.planted) _ c.requires.3)),
-      right_operand c.requires.0 s.1 w (roomy c.evaluate-second.ensures.kept (roomy c.evaluate-first.ensures.kept (room-second (planted_some c.requires.1.planted) _ c.requires.3))),
+      left_operand c.requires.0 s.0 v _ c.evaluate-second.ensures.kept (roomy c.evaluate-first.ensures.kept (room_three (planted_some c.requires.1.planted) _ c.requires.3)),
+      right_operand c.requires.0 s.1 w (roomy c.evaluate-second.ensures.kept (roomy c.evaluate-first.ensures.kept (room_second (planted_some c.requires.1.planted) _ c.requires.3))),
     )
 
 pub shape_of-work-in-Epsilon : goal.shape_of-work-in-Epsilon
@@ -159,8 +159,8 @@ returns-in-Listed t c =
           λ e p.
           let s = node_is _ c.node_at.ensures c.in-Applied.is p in
           let v = rw c.in-Listed.is at (c.evaluate-only.ensures.value s.0 s.3) in
-          one-done c.requires.0 s.0 c.in-Applied.op s.1 _ _ _ c.apply.result v c.apply.ensures.value;
-      kept = kept_trans (kept-left (planted_some c.requires.1.planted) _ c.evaluate-only.ensures.kept) (kept-three (planted_some c.requires.1.planted) _ c.apply.ensures.kept);
+          one_done c.requires.0 s.0 c.in-Applied.op s.1 _ _ _ c.apply.result v c.apply.ensures.value;
+      kept = kept_trans (kept_left (planted_some c.requires.1.planted) _ c.evaluate-only.ensures.kept) (kept_three (planted_some c.requires.1.planted) _ c.apply.ensures.kept);
     }
 
 pub shape_of-work-in-Listed-second : goal.shape_of-work-in-Listed-second
@@ -175,6 +175,6 @@ returns-in-Listed-second t c =
           let s = node_is _ c.node_at.ensures c.in-Infix.is p in
           let v = rw c.in-Listed-first.is at (c.evaluate-first.ensures.value s.0 s.3) in
           let w = rw c.in-Listed-second.is at (c.evaluate-second.ensures.value s.1 s.4) in
-          two-done c.requires.0 s.0 s.1 c.in-Infix.op s.2 _ _ _ c.combine.result v w (left_there c.requires.0 s.0 v _ c.evaluate-second.ensures.kept) c.combine.ensures.value;
-      kept = kept_trans (kept-left (planted_some c.requires.1.planted) _ c.evaluate-first.ensures.kept) (kept_trans (kept-right (planted_some c.requires.1.planted) _ c.evaluate-second.ensures.kept) (kept-three (planted_some c.requires.1.planted) _ c.combine.ensures.kept));
+          two_done c.requires.0 s.0 s.1 c.in-Infix.op s.2 _ _ _ c.combine.result v w (left_there c.requires.0 s.0 v _ c.evaluate-second.ensures.kept) c.combine.ensures.value;
+      kept = kept_trans (kept_left (planted_some c.requires.1.planted) _ c.evaluate-first.ensures.kept) (kept_trans (kept_right (planted_some c.requires.1.planted) _ c.evaluate-second.ensures.kept) (kept_three (planted_some c.requires.1.planted) _ c.combine.ensures.kept));
     }

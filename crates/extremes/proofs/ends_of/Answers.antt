@@ -1,6 +1,6 @@
 -- `ends_of`: what is seen of the zones so far, together with those left, is what is seen of all.
 use Rattle.std.proofs.Common.{arith}
-use Rattle.extremes.proofs.Seeing.{none_seen, proper-next, one_more, all_seen}
+use Rattle.extremes.proofs.Seeing.{none_seen, proper_next, one_more, all_seen}
 use Rattle.zone.proofs.Laws.{proper_diagonal, ranged, ranged_more}
 use Rattle.extremes.proofs.ends_of.Goals as goal
 
@@ -16,7 +16,7 @@ read_zone-z-requires c = omega arith
 pub compose-requires : goal.compose-requires
 compose-requires c = (
   rw c.diagonal-point.ensures.value (ranged_more c.requires.few (ranged (proper_diagonal _ _ (omega arith)))),
-  rw c.read_zone-z.ensures (ranged (proper-next c.loop-i.invariant (omega arith))),
+  rw c.read_zone-z.ensures (ranged (proper_next c.loop-i.invariant (omega arith))),
 )
 
 pub overflow_add-i : goal.overflow_add-i

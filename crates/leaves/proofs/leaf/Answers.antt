@@ -1,6 +1,6 @@
 -- `leaf` meets its contract: a `_`, a letter, or neither.
 use Rattle.std.proofs.Common.{◌∙◌, arith}
-use Rattle.leaves.proofs.Parts.{plain, leaf-epsilon, leaf-letter}
+use Rattle.leaves.proofs.Parts.{plain, leaf_epsilon, leaf_letter}
 use Rattle.leaves.proofs.leaf.Goals as goal
 
 pub overflow_add-at : goal.overflow_add-at
@@ -14,7 +14,7 @@ leaf-requires c =
 pub returns-then-byte_is : goal.returns-then-byte_is
 returns-then-byte_is c =
     rw c.leaf.ensures.0
-    (leaf-epsilon _ _ c.requires.1 _ (c.byte_is.ensures.is ∙ c.if-byte_is.true) (c.byte_is.ensures.inside c.if-byte_is.true) c.leaf.ensures.1)
+    (leaf_epsilon _ _ c.requires.1 _ (c.byte_is.ensures.is ∙ c.if-byte_is.true) (c.byte_is.ensures.inside c.if-byte_is.true) c.leaf.ensures.1)
 
 pub returns-in_default : goal.returns-in_default
 returns-in_default c =
@@ -33,4 +33,4 @@ pub returns : goal.returns
 returns c =
     let o = rw c.in-Letter.is at c.letter_at.ensures in
     rw c.leaf-2.ensures.0
-    (leaf-letter _ _ c.requires.1 _ (c.byte_is.ensures.is ∙ c.if-byte_is.false) o c.leaf-2.ensures.1)
+    (leaf_letter _ _ c.requires.1 _ (c.byte_is.ensures.is ∙ c.if-byte_is.false) o c.leaf-2.ensures.1)

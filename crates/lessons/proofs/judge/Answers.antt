@@ -1,5 +1,5 @@
 -- `judge` meets its contract: what reading the recording answers decides, and then the lines.
-use Rattle.lessons.proofs.Judging.{wrong_length, wrong_head, wrong_change, wrong-sheet, none-wrong}
+use Rattle.lessons.proofs.Judging.{wrong_length, wrong_head, wrong_change, wrong_sheet, none_wrong}
 use Rattle.lessons.proofs.judge.Goals as goal
 
 pub returns-in-WrongLength : goal.returns-in-WrongLength
@@ -13,9 +13,9 @@ returns-in-WrongChange c text store h = wrong_change _ text (rw c.in-WrongChange
 
 pub returns-in-Wrong : goal.returns-in-Wrong
 returns-in-Wrong c text store h =
-    wrong-sheet _ text (rw c.in-Recorded.is at c.read.ensures) (rw c.in-Wrong.is at h)
+    wrong_sheet _ text (rw c.in-Recorded.is at c.read.ensures) (rw c.in-Wrong.is at h)
 
 pub returns-in-Lines : goal.returns-in-Lines
 returns-in-Lines c text store h =
     let l = rw c.in-Lines.is at h in
-    (none-wrong _ text (rw c.in-Recorded.is at c.read.ensures) (λ u. u l.drills l.lined), l)
+    (none_wrong _ text (rw c.in-Recorded.is at c.read.ensures) (λ u. u l.drills l.lined), l)

@@ -1,5 +1,5 @@
 use Rattle.std.proofs.Common.{[], ◌∷◌, map, ◌≡◌, refl, sym, ap, ◌∙◌, ◌+◌, ◌-◌, ◌*◌, arith}
-use Rattle.growing.proofs.Going.{Going, going_start, going_same, going_on, going-overflow, going_end}
+use Rattle.growing.proofs.Going.{Going, going_start, going_same, going_on, going_overflow, going_end}
 use Rattle.list.proofs.Scan.{nothing_left}
 use Rattle.list.proofs.Slots.{kept_trans}
 use Rattle.list.specs.Insert.{insert_each}
@@ -40,7 +40,7 @@ shape_of-words-in_default c = c.grow_from.ensures.kept.same_length ∙ c.loop-i.
 
 pub returns-in_default : goal.returns-in_default
 returns-in_default c = record {
-  grown = going-overflow (_ ∷ []) _ (ahead (goal.at.returns-in_default c).After-grow_from) (rw c.in_default.is at c.grow_from.ensures.grown);
+  grown = going_overflow (_ ∷ []) _ (ahead (goal.at.returns-in_default c).After-grow_from) (rw c.in_default.is at c.grow_from.ensures.grown);
   kept = kept_trans c.loop-i.invariant.2.frame c.grow_from.ensures.kept;
 }
 

@@ -1,6 +1,6 @@
 use Rattle.growing.proofs.Going.{grown_stands}
 use Rattle.list.proofs.Slots.{kept_trans, list_there}
-use Rattle.operators.proofs.Listings.{begun_operands, begun_listing, begun_overflow, union_left_overflow, union-right-overflow, union-listing}
+use Rattle.operators.proofs.Listings.{begun_operands, begun_listing, begun_overflow, union_left_overflow, union_right_overflow, union_listing}
 use Rattle.pairs.proofs.Zones.{still_supply}
 use Rattle.operators.proofs.union.Goals as goal
 
@@ -22,13 +22,13 @@ each_zone-requires-2 c =
 pub returns-in_default-each_zone : goal.returns-in_default-each_zone
 returns-in_default-each_zone c =
     let lefts = begun_listing _ _ _ c.nothing.ensures (rw c.in-Grew.is at c.each_zone.ensures.grown) in record {
-      built = union-right-overflow _ _ lefts (list_there c.args.right c.args.m c.each_zone.ensures.kept c.requires.rights.apart c.requires.rights.list.few) (rw c.in_default-each_zone.is at c.each_zone-2.ensures.grown);
+      built = union_right_overflow _ _ lefts (list_there c.args.right c.args.m c.each_zone.ensures.kept c.requires.rights.apart c.requires.rights.list.few) (rw c.in_default-each_zone.is at c.each_zone-2.ensures.grown);
       kept = kept_trans c.each_zone.ensures.kept c.each_zone-2.ensures.kept;
     }
 
 pub returns : goal.returns
 returns c =
     let lefts = begun_listing _ _ _ c.nothing.ensures (rw c.in-Grew.is at c.each_zone.ensures.grown) in record {
-      built = union-listing _ _ lefts (list_there c.args.right c.args.m c.each_zone.ensures.kept c.requires.rights.apart c.requires.rights.list.few) (rw c.in-Grew-each_zone.is at c.each_zone-2.ensures.grown);
+      built = union_listing _ _ lefts (list_there c.args.right c.args.m c.each_zone.ensures.kept c.requires.rights.apart c.requires.rights.list.few) (rw c.in-Grew-each_zone.is at c.each_zone-2.ensures.grown);
       kept = kept_trans c.each_zone.ensures.kept c.each_zone-2.ensures.kept;
     }

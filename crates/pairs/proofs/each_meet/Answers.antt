@@ -3,7 +3,7 @@ use Rattle.list.proofs.Puts.{held}
 use Rattle.list.proofs.Scan.{nothing_left}
 use Rattle.list.proofs.Slots.{kept_trans}
 use Rattle.pairs.proofs.Combining.{combining_start, combining_same, combining_end}
-use Rattle.pairs.proofs.Turns.{from_first, pair-ready, pair-overflow, met-past, met-on, met-ranged}
+use Rattle.pairs.proofs.Turns.{from_first, pair_ready, pair_overflow, met_past, met_on, met_ranged}
 use Rattle.pairs.specs.Pairs.{beside}
 use Rattle.zone.proofs.Laws.{ranged}
 use Rattle.pairs.proofs.each_meet.Goals as goal
@@ -12,7 +12,7 @@ pub loop-j-init : goal.loop-j-init
 loop-j-init c = (omega arith, combining_same (from_first c.requires) (combining_start _ _ _ _ _ c.requires.stands))
 
 pub read_zone-z-requires : goal.read_zone-z-requires
-read_zone-z-requires c = (pair-ready c.requires c.loop-j.invariant.1.going.frame _ c.loop-j-test.true).0
+read_zone-z-requires c = (pair_ready c.requires c.loop-j.invariant.1.going.frame _ c.loop-j-test.true).0
 
 pub overflow_mul-j : goal.overflow_mul-j
 overflow_mul-j c = omega arith
@@ -21,14 +21,14 @@ pub overflow_add-right : goal.overflow_add-right
 overflow_add-right c = omega arith
 
 pub read_zone-w-requires : goal.read_zone-w-requires
-read_zone-w-requires c = (pair-ready c.requires c.loop-j.invariant.1.going.frame _ c.loop-j-test.true).1
+read_zone-w-requires c = (pair_ready c.requires c.loop-j.invariant.1.going.frame _ c.loop-j-test.true).1
 
 pub overflow_add-j : goal.overflow_add-j
 overflow_add-j c = omega arith
 
 pub meet-requires : goal.meet-requires
 meet-requires c =
-    let ready = pair-ready c.requires c.loop-j.invariant.1.going.frame _ c.loop-j-test.true in
+    let ready = pair_ready c.requires c.loop-j.invariant.1.going.frame _ c.loop-j-test.true in
     rw (c.read_zone-z.ensures, c.read_zone-w.ensures) (ranged ready.2, ranged ready.3)
 
 pub loop-j-smaller-in_default : goal.loop-j-smaller-in_default
@@ -38,13 +38,13 @@ pub loop-j-preserved-in_default : goal.loop-j-preserved-in_default
 loop-j-preserved-in_default c =
     let turn = c.loop-j.invariant.1 in
     let e = rw (c.read_zone-z.ensures, c.read_zone-w.ensures) at c.meet.ensures.value in
-    (omega (arith, c.loop-j-test.true), met-past c.requires turn.going.frame _ c.loop-j-test.true turn (sym e ∙ c.in_default.is))
+    (omega (arith, c.loop-j-test.true), met_past c.requires turn.going.frame _ c.loop-j-test.true turn (sym e ∙ c.in_default.is))
 
 pub write_zone-requires : goal.write_zone-requires
 write_zone-requires c =
     let turn = c.loop-j.invariant.1 in
     let e = rw (c.read_zone-z.ensures, c.read_zone-w.ensures) at c.meet.ensures.value in
-    (omega arith, met-ranged c.requires turn.going.frame _ c.loop-j-test.true (sym e ∙ c.in-Zone.is))
+    (omega arith, met_ranged c.requires turn.going.frame _ c.loop-j-test.true (sym e ∙ c.in-Zone.is))
 
 pub grow_words-requires : goal.grow_words-requires
 grow_words-requires c = c.loop-j.invariant.1.going.stands
@@ -57,7 +57,7 @@ returns-in_default-grow_words c =
     let turn = c.loop-j.invariant.1 in
     let e = rw (c.read_zone-z.ensures, c.read_zone-w.ensures) at c.meet.ensures.value in
     let grown = rw (held c.in-Zone.v _ c.write_zone.ensures (omega arith), c.in_default-grow_words.is) at c.grow_words.ensures.grown in record {
-      grown = pair-overflow c.requires turn.going.frame _ c.loop-j-test.true turn (sym e ∙ c.in-Zone.is) grown;
+      grown = pair_overflow c.requires turn.going.frame _ c.loop-j-test.true turn (sym e ∙ c.in-Zone.is) grown;
       kept = kept_trans turn.going.frame c.grow_words.ensures.kept;
     }
 
@@ -69,7 +69,7 @@ loop-j-preserved c =
     let turn = c.loop-j.invariant.1 in
     let e = rw (c.read_zone-z.ensures, c.read_zone-w.ensures) at c.meet.ensures.value in
     let grown = rw (held c.in-Zone.v _ c.write_zone.ensures (omega arith), c.in-Grew.is) at c.grow_words.ensures.grown in
-    (omega (arith, c.loop-j-test.true), met-on c.requires turn.going.frame _ c.loop-j-test.true turn (sym e ∙ c.in-Zone.is) grown c.grow_words.ensures.kept)
+    (omega (arith, c.loop-j-test.true), met_on c.requires turn.going.frame _ c.loop-j-test.true turn (sym e ∙ c.in-Zone.is) grown c.grow_words.ensures.kept)
 
 pub shape_of-words : goal.shape_of-words
 shape_of-words c = c.loop-j.invariant.1.going.frame.same_length

@@ -5,12 +5,12 @@ use Rattle.parser.proofs.Checks.{capped_wrong_unary}
 use Rattle.parser.proofs.Additions.{
   joins_begin,
   joins_none,
-  joins-end,
-  joins-stop,
-  joins-on-to,
+  joins_end,
+  joins_stop,
+  joins_on_to,
   untilded_as,
-  tilded-stop,
-  tilded-on,
+  tilded_stop,
+  tilded_on,
   postfixes_begin,
   postfixes_none,
   postfixes_end,
@@ -44,7 +44,7 @@ chain-operand-requires-in-loop-join t c =
 pub chain-returns-in_default-operand : goal.chain-returns-in_default-operand
 chain-returns-in_default-operand t c =
     let seen = rw c.symbol-byte.ensures at c.byte_is.ensures in
-    joins-stop c.args.join c.loop-join.invariant.0 (seen.is ∙ c.loop-join-test.true) (seen.inside c.loop-join-test.true) (rw c.in_default-operand.is at c.operand-in-loop-join.ensures)
+    joins_stop c.args.join c.loop-join.invariant.0 (seen.is ∙ c.loop-join-test.true) (seen.inside c.loop-join-test.true) (rw c.in_default-operand.is at c.operand-in-loop-join.ensures)
 
 pub chain-over_two-tree-requires : goal.chain-over_two-tree-requires
 chain-over_two-tree-requires t c =
@@ -64,12 +64,12 @@ pub chain-loop-join-preserved : goal.chain-loop-join-preserved
 chain-loop-join-preserved t c =
     let seen = rw c.symbol-byte.ensures at c.byte_is.ensures in
     let r = rw c.in-Part-operand.is at c.operand-in-loop-join.ensures in
-    (joins-on-to c.args.join c.loop-join.invariant.0 (seen.is ∙ c.loop-join-test.true) (seen.inside c.loop-join-test.true) r c.over_two-tree.ensures.0 c.over_two-tree.ensures.1, omega (arith, c.over_two-tree.auto.nodes, c.operand-in-loop-join.auto.nodes, c.loop-join.invariant.1))
+    (joins_on_to c.args.join c.loop-join.invariant.0 (seen.is ∙ c.loop-join-test.true) (seen.inside c.loop-join-test.true) r c.over_two-tree.ensures.0 c.over_two-tree.ensures.1, omega (arith, c.over_two-tree.auto.nodes, c.operand-in-loop-join.auto.nodes, c.loop-join.invariant.1))
 
 pub chain-returns : goal.chain-returns
 chain-returns t c =
     let seen = rw c.symbol-byte.ensures at c.byte_is.ensures in
-    joins-end c.args.join c.loop-join.invariant.0 (rw c.in-Part.is at c.operand.ensures).kept (seen.is ∙ c.loop-join-test.false)
+    joins_end c.args.join c.loop-join.invariant.0 (rw c.in-Part.is at c.operand.ensures).kept (seen.is ∙ c.loop-join-test.false)
 
 pub conjunction-returns : goal.conjunction-returns
 conjunction-returns t c =
@@ -85,7 +85,7 @@ factor-repeat-requires t c =
 
 pub factor-returns-in_default : goal.factor-returns-in_default
 factor-returns-in_default t c =
-    tilded-stop _ _ (c.byte_is.ensures.is ∙ c.if-byte_is.true) (c.byte_is.ensures.inside c.if-byte_is.true) (rw c.in_default.is at c.repeat.ensures)
+    tilded_stop _ _ (c.byte_is.ensures.is ∙ c.if-byte_is.true) (c.byte_is.ensures.inside c.if-byte_is.true) (rw c.in_default.is at c.repeat.ensures)
 
 pub factor-over_one-requires : goal.factor-over_one-requires
 factor-over_one-requires t c =
@@ -99,7 +99,7 @@ factor-over_one-requires t c =
 pub factor-returns-then-byte_is : goal.factor-returns-then-byte_is
 factor-returns-then-byte_is t c =
     let s = rw c.in-Part.is at c.repeat.ensures in
-    tilded-on _ _ (c.byte_is.ensures.is ∙ c.if-byte_is.true) (c.byte_is.ensures.inside c.if-byte_is.true) s c.over_one.ensures.0 c.over_one.ensures.1
+    tilded_on _ _ (c.byte_is.ensures.is ∙ c.if-byte_is.true) (c.byte_is.ensures.inside c.if-byte_is.true) s c.over_one.ensures.0 c.over_one.ensures.1
 
 pub factor-returns : goal.factor-returns
 factor-returns t c =

@@ -2,7 +2,7 @@
 use Rattle.std.proofs.Common.{◌∙◌, arith}
 use Rattle.list.proofs.Puts.{held}
 use Rattle.list.proofs.Slots.{kept_trans}
-use Rattle.primaries.proofs.Spelling.{spelt_none, spelt-all, spelt-skip, spelt-more, spelt-over, mark_ranged}
+use Rattle.primaries.proofs.Spelling.{spelt_none, spelt_all, spelt_skip, spelt_more, spelt_over, mark_ranged}
 use Rattle.primaries.proofs.Windows.{looks_ticks}
 use Rattle.primaries.proofs.spell.Goals as goal
 
@@ -17,7 +17,7 @@ shape_of-work-in_default c = c.loop-run.invariant.frame.same_length
 
 pub returns-in_default : goal.returns-in_default
 returns-in_default c = record {
-  value = spelt-all _ _ _ _ _ _ c.loop-run.invariant _ (rw c.in_default.is at c.next_run.ensures);
+  value = spelt_all _ _ _ _ _ _ c.loop-run.invariant _ (rw c.in_default.is at c.next_run.ensures);
   kept = c.loop-run.invariant.frame;
 }
 
@@ -34,7 +34,7 @@ loop-run-smaller-in_default-mark_of c = let n = rw c.in-Found.is at c.next_run.e
 pub loop-run-preserved-in_default-mark_of : goal.loop-run-preserved-in_default-mark_of
 loop-run-preserved-in_default-mark_of c =
     let n = rw c.in-Found.is at c.next_run.ensures in
-    spelt-skip _ _ _ _ _ _ c.loop-run.invariant _ _ n c.mark_of.ensures c.in_default-mark_of.is
+    spelt_skip _ _ _ _ _ _ c.loop-run.invariant _ _ n c.mark_of.ensures c.in_default-mark_of.is
 
 -- a run with one
 pub write_zone-requires : goal.write_zone-requires
@@ -52,7 +52,7 @@ pub returns-in_default-grow_words : goal.returns-in_default-grow_words
 returns-in_default-grow_words c =
     let n = rw c.in-Found.is at c.next_run.ensures in
     let over = rw (held c.in-Zone.z _ c.write_zone.ensures (omega arith), c.in_default-grow_words.is) at c.grow_words.ensures.grown in record {
-      value = spelt-over _ _ _ _ _ _ c.loop-run.invariant _ _ n c.mark_of.ensures _ (rw c.in-Zone.is over.0);
+      value = spelt_over _ _ _ _ _ _ c.loop-run.invariant _ _ n c.mark_of.ensures _ (rw c.in-Zone.is over.0);
       kept = kept_trans c.loop-run.invariant.frame c.grow_words.ensures.kept;
     }
 
@@ -63,4 +63,4 @@ pub loop-run-preserved : goal.loop-run-preserved
 loop-run-preserved c =
     let n = rw c.in-Found.is at c.next_run.ensures in
     let built = rw (held c.in-Zone.z _ c.write_zone.ensures (omega arith), c.in-Grew.is) at c.grow_words.ensures.grown in
-    spelt-more _ _ _ _ _ _ c.loop-run.invariant _ _ n c.mark_of.ensures (rw c.in-Zone.is built) c.grow_words.ensures.kept
+    spelt_more _ _ _ _ _ _ c.loop-run.invariant _ _ n c.mark_of.ensures (rw c.in-Zone.is built) c.grow_words.ensures.kept

@@ -4,7 +4,7 @@ use Rattle.list.proofs.Slots.{kept_trans}
 use Rattle.pairs.proofs.Combining.{combining_start, combining_same, combining_end}
 use Rattle.pairs.proofs.Zones.{still_zones, proper_one}
 use Rattle.pairs.specs.Pairs.{beside}
-use Rattle.products.proofs.Blocks.{first_block, block-pairing, block_on, block-overflow, block-past}
+use Rattle.products.proofs.Blocks.{first_block, block_pairing, block_on, block_overflow, block_past}
 use Rattle.products.proofs.each_block.Goals as goal
 
 pub loop-b-init : goal.loop-b-init
@@ -43,12 +43,12 @@ pub loop-b-preserved-then-not-reached : goal.loop-b-preserved-then-not-reached
 loop-b-preserved-then-not-reached c =
     let turn = c.loop-b.invariant.1 in
     let e : c.reaches-reached.result ≡ false = c.if-not-reached.true in
-    (omega (arith, c.loop-b-test.true, c.requires.3), block-past c.requires.0 turn.going.frame _ c.loop-b-test.true turn c.requires.1 (rw e at c.reaches-reached.ensures))
+    (omega (arith, c.loop-b-test.true, c.requires.3), block_past c.requires.0 turn.going.frame _ c.loop-b-test.true turn c.requires.1 (rw e at c.reaches-reached.ensures))
 
 pub each_right-requires : goal.each_right-requires
 each_right-requires c =
     let turn = c.loop-b.invariant.1 in
-    rw c.block_size-k.ensures (block-pairing c.requires.0 turn.going.frame _ c.loop-b-test.true turn)
+    rw c.block_size-k.ensures (block_pairing c.requires.0 turn.going.frame _ c.loop-b-test.true turn)
 
 pub shape_of-words-in_default : goal.shape_of-words-in_default
 shape_of-words-in_default c = c.each_right.ensures.kept.same_length ∙ c.loop-b.invariant.1.going.frame.same_length
@@ -57,7 +57,7 @@ pub returns-in_default : goal.returns-in_default
 returns-in_default c =
     let turn = c.loop-b.invariant.1 in
     let grown = rw (c.block_size-k.ensures, c.in_default.is) at c.each_right.ensures.grown in record {
-      grown = block-overflow c.requires.0 turn.going.frame _ c.loop-b-test.true turn grown;
+      grown = block_overflow c.requires.0 turn.going.frame _ c.loop-b-test.true turn grown;
       kept = kept_trans turn.going.frame c.each_right.ensures.kept;
     }
 

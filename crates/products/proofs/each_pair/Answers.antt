@@ -3,7 +3,7 @@ use Rattle.list.proofs.Slots.{kept_trans}
 use Rattle.pairs.proofs.Combining.{combining_start, combining_same}
 use Rattle.pairs.proofs.Zones.{supply_zones}
 use Rattle.products.proofs.Hulls.{still_hulls}
-use Rattle.products.proofs.Rows.{first_row, rows_end, row-pairing, row_on, row-overflow}
+use Rattle.products.proofs.Rows.{first_row, rows_end, row_pairing, row_on, row_overflow}
 use Rattle.products.proofs.each_pair.Goals as goal
 
 pub write_hulls-requires : goal.write_hulls-requires
@@ -22,7 +22,7 @@ pub each_block-requires : goal.each_block-requires
 each_block-requires c =
     let turn = c.loop-i.invariant.1 in
     let rights = c.requires.0.rights in (
-      row-pairing c.requires.0 turn.going.frame _ c.loop-i-test.true turn c.requires.2,
+      row_pairing c.requires.0 turn.going.frame _ c.loop-i-test.true turn c.requires.2,
       still_hulls c.write_hulls.ensures (supply_zones rights) turn.going.frame,
       omega arith,
       rights.list.few,
@@ -34,7 +34,7 @@ shape_of-words-in_default c = c.each_block.ensures.kept.same_length ∙ c.loop-i
 pub returns-in_default : goal.returns-in_default
 returns-in_default c =
     let turn = c.loop-i.invariant.1 in record {
-      grown = row-overflow c.requires.0 turn.going.frame _ c.loop-i-test.true turn (rw c.in_default.is at c.each_block.ensures.grown);
+      grown = row_overflow c.requires.0 turn.going.frame _ c.loop-i-test.true turn (rw c.in_default.is at c.each_block.ensures.grown);
       kept = kept_trans turn.going.frame c.each_block.ensures.kept;
     }
 

@@ -1,7 +1,7 @@
 -- `postfix_at` meets its contract.
 use Rattle.std.proofs.Common.{◌∙◌, arith, ap}
 use Rattle.tokens.proofs.Text.{not_true, not_false}
-use Rattle.tokens.proofs.Tokens.{star_is, no-operator, no-band, band-is}
+use Rattle.tokens.proofs.Tokens.{star_is, no_operator, no_band, band_is}
 use mathlib.Core.Bool.{not}
 use Rattle.tokens.proofs.postfix_at.Goals as goal
 
@@ -12,7 +12,7 @@ pub returns-then-byte_is : goal.returns-then-byte_is
 returns-then-byte_is c = star_is _ _ (c.byte_is.ensures.is ∙ c.if-byte_is.true) (c.byte_is.ensures.inside c.if-byte_is.true)
 
 pub returns-then-not-byte_is : goal.returns-then-not-byte_is
-returns-then-not-byte_is c = no-operator c.args.text.now c.args.at (c.byte_is.ensures.is ∙ c.if-byte_is.false) (c.byte_is-2.ensures.is ∙ not_true c.byte_is-2.result (ap not c.if-not-byte_is.true))
+returns-then-not-byte_is c = no_operator c.args.text.now c.args.at (c.byte_is.ensures.is ∙ c.if-byte_is.false) (c.byte_is-2.ensures.is ∙ not_true c.byte_is-2.result (ap not c.if-not-byte_is.true))
 
 pub overflow_add-at : goal.overflow_add-at
 overflow_add-at c = omega (arith, c.byte_is-2.ensures.inside (not_false c.byte_is-2.result (ap not c.if-not-byte_is.false)))
@@ -20,9 +20,9 @@ overflow_add-at c = omega (arith, c.byte_is-2.ensures.inside (not_false c.byte_i
 pub returns-in_default : goal.returns-in_default
 returns-in_default c =
     let m = not_false c.byte_is-2.result (ap not c.if-not-byte_is.false) in
-    no-band _ _ (c.byte_is.ensures.is ∙ c.if-byte_is.false) (c.byte_is-2.ensures.is ∙ m) (c.byte_is-2.ensures.inside m) (rw c.in_default.is at c.range_at.ensures)
+    no_band _ _ (c.byte_is.ensures.is ∙ c.if-byte_is.false) (c.byte_is-2.ensures.is ∙ m) (c.byte_is-2.ensures.inside m) (rw c.in_default.is at c.range_at.ensures)
 
 pub returns : goal.returns
 returns c =
     let m = not_false c.byte_is-2.result (ap not c.if-not-byte_is.false) in
-    band-is _ _ (c.byte_is.ensures.is ∙ c.if-byte_is.false) (c.byte_is-2.ensures.is ∙ m) (c.byte_is-2.ensures.inside m) (rw c.in-Limits.is at c.range_at.ensures)
+    band_is _ _ (c.byte_is.ensures.is ∙ c.if-byte_is.false) (c.byte_is-2.ensures.is ∙ m) (c.byte_is-2.ensures.inside m) (rw c.in-Limits.is at c.range_at.ensures)

@@ -1,6 +1,6 @@
 -- `sign_at` meets its contract: the three signs, looked for one after the other.
 use Rattle.std.proofs.Common.{◌∙◌, arith}
-use Rattle.tokens.proofs.Tokens.{low_is, rise-is, fall-is, unsigned}
+use Rattle.tokens.proofs.Tokens.{low_is, rise_is, fall_is, unsigned}
 use Rattle.tokens.proofs.sign_at.Goals as goal
 
 pub overflow_add-result : goal.overflow_add-result
@@ -14,7 +14,7 @@ overflow_add-result-then-byte_is-2 c = omega (arith, c.byte_is-2.ensures.inside 
 
 pub returns-then-byte_is-2 : goal.returns-then-byte_is-2
 returns-then-byte_is-2 c =
-    rise-is _ _ (c.byte_is.ensures.is ∙ c.if-byte_is.false) (c.byte_is-2.ensures.is ∙ c.if-byte_is-2.true)
+    rise_is _ _ (c.byte_is.ensures.is ∙ c.if-byte_is.false) (c.byte_is-2.ensures.is ∙ c.if-byte_is-2.true)
     (c.byte_is-2.ensures.inside c.if-byte_is-2.true)
 
 pub overflow_add-result-then-byte_is-3 : goal.overflow_add-result-then-byte_is-3
@@ -22,7 +22,7 @@ overflow_add-result-then-byte_is-3 c = omega (arith, c.byte_is-3.ensures.inside 
 
 pub returns-then-byte_is-3 : goal.returns-then-byte_is-3
 returns-then-byte_is-3 c =
-    fall-is _ _ (c.byte_is.ensures.is ∙ c.if-byte_is.false)
+    fall_is _ _ (c.byte_is.ensures.is ∙ c.if-byte_is.false)
     (c.byte_is-2.ensures.is ∙ c.if-byte_is-2.false) (c.byte_is-3.ensures.is ∙ c.if-byte_is-3.true)
     (c.byte_is-3.ensures.inside c.if-byte_is-3.true)
 
