@@ -8,7 +8,7 @@ use mathlib.Core.List.{List, [], ◌∷◌, ◌++◌, Memᴰ}
 use Prim.Native.Nat.{ℕ, ◌<◌}
 use native.Mathlib.Omega.{arith}
 use Rattle.calls.specs.Causes.{First, NoCause, CallAs, CallAs.refused, CallAs.accepted}
-use Rattle.calls.specs.Outcome.{Outcome, Finished, returned}
+use Rattle.calls.specs.Outcome.{Outcome, listing, returned}
 use Rattle.outcome.proofs.Numbers.{zero_finished, same_number}
 
 -- ---- places in a list
@@ -100,7 +100,7 @@ module _ {causes : List Outcome} {Cause : Outcome → Type 0} where
     refused_at earlier later o e n c = refused (record { earlier = earlier; later = later; place = e; holds = c; none = none_of n })
 
     -- A call has no two outcomes, where there is one way to finish.
-    pub call_unique : ((z r y s : ℕ) → Finishes z r → Finishes y s → Finished z r ≡ Finished y s)
+    pub call_unique : ((z r y s : ℕ) → Finishes z r → Finishes y s → listing z r ≡ listing y s)
         → {o p : Outcome} → CallAs causes Cause Finishes o → CallAs causes Cause Finishes p → o ≡ p
     call_unique once (refused f) (refused g) = first_unique f g
     call_unique once (refused f) (accepted n d) = absurd (not_refused n f)
@@ -114,7 +114,7 @@ module _ {causes : List Outcome} {Cause : Outcome → Type 0} where
     number_first (accepted n d) p h = (λ e. absurd (omega arith), λ g. absurd (not_refused n g))
 
     -- .. and 0 exactly where no cause holds; a finished list is no cause.
-    pub number_none : ((zones rounds : ℕ) → ¬ Cause (Finished zones rounds)) → {o : Outcome} → CallAs causes Cause Finishes o
+    pub number_none : ((zones rounds : ℕ) → ¬ Cause (listing zones rounds)) → {o : Outcome} → CallAs causes Cause Finishes o
         → ((returned o).number ≡ 0) ↔ NoCause causes Cause
     number_none never (refused {o} f) = (λ e. absurd (never _ _ (subst Cause (zero_finished o e) f.holds)), λ n. absurd (not_refused n f))
     number_none never (accepted n d) = (λ _. n, λ _. refl)

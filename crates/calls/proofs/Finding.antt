@@ -16,15 +16,15 @@ use Rattle.parser.specs.declared.Parsed.{Parsed}
 use Rattle.parser.specs.declared.Parsed.TheVariants.{Root, WrongLength, NoForm, WrongLetter, WrongRange, TooDeep}
 use Rattle.parser.specs.Parsing.{ParsedAs}
 use Rattle.meaning.specs.Lists.{Value, value, Evaluates}
-use Rattle.delivery.specs.declared.Worked.{Worked}
-use Rattle.delivery.specs.declared.Worked.TheVariants.{WorkShort, Overflow, RoundsSpent, AnswerShort, Finished}
-use Rattle.calls.specs.declared.Drill.{Drill}
-use Rattle.calls.specs.declared.Drill.TheVariants.{Root, Refused}
-use Rattle.calls.specs.Outcome.{Outcome, DrillLength, DrillForm, DrillLetter, DrillRange, DrillDepth, Finished, largest, both, leaves, returned, Comes}
+use Rattle.std.specs.Prelude.{Result}
+use Rattle.delivery.specs.declared.Shortage.{Shortage}
+use Rattle.delivery.specs.declared.Shortage.TheVariants as shortage
+use Rattle.calls.specs.Outcome.{Outcome, Ok, Err, Finished, Refusal, DrillLength, DrillForm, DrillLetter, DrillRange, DrillDepth, largest, both, number_of, leaves, Comes}
 use Rattle.calls.specs.Within.{CallWithin, WithinAs}
+use Rattle.outcome.proofs.Numbers.{number_range}
 use Rattle.purse.specs.Purse.{Overflowing, Exceeding, Spending}
-use Rattle.delivery.specs.Working.{WorkedAs}
-use Rattle.calls.specs.Steps.{drill_of, outcome_of}
+use Rattle.delivery.specs.Working.{refusal_of, WorkedAs}
+use Rattle.calls.specs.Steps.{root_of}
 use Rattle.calls.proofs.Outcomes.{Without, recordings, drills, recording_call, drill_call, drill_none, work_call, overflow_call, spent_call, answer_call, accepted_call}
 
 -- A call whose outcome leaves both buffers as they were.
@@ -32,6 +32,11 @@ pub untouched : {bytes text : List ℕ} {left : ℕ} {answer work : List ℤ} {o
     → WithinAs bytes text left answer work o left answer work
 untouched {bytes} {text} {left} {answer} {work} {o} e c =
     record { outcome = c; buffers = rw e (record { answer_kept = refl; work_kept = refl }); rounds = rw e refl }
+
+-- what a stored drill that was worked out comes to
+abbrev pub outcome_of : Result Finished Shortage → Outcome
+outcome_of (Ok f) = Ok f
+outcome_of (Err s) = Err (refusal_of s)
 
 -- ---- on a recording that was read
 
@@ -47,24 +52,23 @@ module _ (bytes : List ℕ) (size : Dimensions) (read : ReadingAs largest bytes 
     none = recording_call bytes text left (length answer) (length work) (Recorded size) read
 
     -- A drill that is refused.
-    drill_refused : (o : Outcome) → leaves o ≡ both → 0 < (returned o).number → DrillRefused text size.channels (returned o).number
-        → WithinAs bytes text left answer work o left answer work
-    drill_refused o e h f = untouched e (drill_call bytes text left (length answer) (length work) none o h (rw same_channels at f))
+    drill_refused : (r : Refusal) → leaves (Err r) ≡ both → DrillRefused text size.channels (number_of r) → WithinAs bytes text left answer work (Err r) left answer work
+    drill_refused r e f = untouched e (drill_call bytes text left (length answer) (length work) none (Err r) (number_range r).0 (rw same_channels at f))
 
     -- What the parser answers is the tree of the drill, or decides the call.
-    abbrev pub DrillAs : List ℕ → Drill → Type 0
-    DrillAs nodes (Root n) = ParsedAs text size.channels nodes (Root n)
-    DrillAs nodes (Refused o) = WithinAs bytes text left answer work o left answer work
+    abbrev pub DrillAs : List ℕ → Result ℕ Refusal → Type 0
+    DrillAs nodes (Ok n) = ParsedAs text size.channels nodes (Root n)
+    DrillAs nodes (Err r) = WithinAs bytes text left answer work (Err r) left answer work
 
-    drill_as : (nodes : List ℕ) (p : Parsed) → ParsedAs text size.channels nodes p → DrillAs nodes (drill_of p)
+    drill_as : (nodes : List ℕ) (p : Parsed) → ParsedAs text size.channels nodes p → DrillAs nodes (root_of p)
     drill_as nodes (Root n) h = h
-    drill_as nodes WrongLength h = drill_refused DrillLength refl (omega arith) h
-    drill_as nodes NoForm h = drill_refused DrillForm refl (omega arith) h
-    drill_as nodes WrongLetter h = drill_refused DrillLetter refl (omega arith) h
-    drill_as nodes WrongRange h = drill_refused DrillRange refl (omega arith) h
-    drill_as nodes TooDeep h = drill_refused DrillDepth refl (omega arith) h
+    drill_as nodes WrongLength h = drill_refused DrillLength refl h
+    drill_as nodes NoForm h = drill_refused DrillForm refl h
+    drill_as nodes WrongLetter h = drill_refused DrillLetter refl h
+    drill_as nodes WrongRange h = drill_refused DrillRange refl h
+    drill_as nodes TooDeep h = drill_refused DrillDepth refl h
 
-    pub drill_read : (nodes : List ℕ) (p : Parsed) {d k : Drill} → ParsedAs text size.channels nodes p → d ≡ drill_of p → d ≡ k → DrillAs nodes k
+    pub drill_read : (nodes : List ℕ) (p : Parsed) {d k : Result ℕ Refusal} → ParsedAs text size.channels nodes p → d ≡ root_of p → d ≡ k → DrillAs nodes k
     drill_read nodes p h e f = subst (DrillAs nodes) (sym e ∙ f) (drill_as nodes p h)
 
     -- A drill that is accepted and worked out.
@@ -85,23 +89,23 @@ module _ (bytes : List ℕ) (size : Dimensions) (read : ReadingAs largest bytes 
       spending : {left' : ℕ} → Spending (Evaluates (Shows bytes) 0 size.ticks e) left left' → Spending (Comes bytes text) left left'
       spending s = record { whole = s.whole; means = comes _ s.means; left_is = s.left_is }
 
-      pub found : (w : Worked) {left' : ℕ} {answer' work' : List ℤ} → WorkedAs (Evaluates (Shows bytes) 0 size.ticks e) left w left' answer work answer' work'
+      pub found : (w : Result Finished Shortage) {left' : ℕ} {answer' work' : List ℤ} → WorkedAs (Evaluates (Shows bytes) 0 size.ticks e) left w left' answer work answer' work'
           → WithinAs bytes text left answer work (outcome_of w) left' answer' work'
-      found WorkShort h = record { outcome = work_call bytes text _ _ _ ruled_out h.0; buffers = h.2; rounds = h.1 }
-      found Overflow h = record { outcome = overflow_call bytes text _ _ _ ruled_out h.0 (overflowing h.1); buffers = h.3; rounds = spending h.2 }
-      found RoundsSpent h = record { outcome = spent_call bytes text _ _ _ ruled_out h.0 (exceeding h.1); buffers = h.3; rounds = spending h.2 }
-      found AnswerShort h =
+      found (Err shortage.WorkShort) h = record { outcome = work_call bytes text _ _ _ ruled_out h.0; buffers = h.2; rounds = h.1 }
+      found (Err shortage.Overflow) h = record { outcome = overflow_call bytes text _ _ _ ruled_out h.0 (overflowing h.1); buffers = h.3; rounds = spending h.2 }
+      found (Err shortage.RoundsSpent) h = record { outcome = spent_call bytes text _ _ _ ruled_out h.0 (exceeding h.1); buffers = h.3; rounds = spending h.2 }
+      found (Err shortage.AnswerShort) h =
           let s = h.1.0 in
           record {
             outcome = answer_call bytes text _ _ _ ruled_out h.0 (comes (value s.0 s.1) s.2) h.1.1 s.3;
             buffers = h.3;
             rounds = spending h.2;
           }
-      found (Finished zones rounds) h =
+      found (Ok w) h =
           let f = h.3.finishes in
-          let c = comes (value f.list rounds) f.means in
+          let c = comes (value f.list w.rounds) f.means in
           record {
-            outcome = subst (λ (k : ℕ). CallWithin bytes text left (length answer) (length work) (Finished k rounds)) f.count
+            outcome = subst (λ (k : ℕ). CallWithin bytes text left (length answer) (length work) (Ok (record { zones = k; rounds = w.rounds }))) f.count
                 (accepted_call bytes text _ _ _ ruled_out h.0 c h.1.1 (omega (arith, h.1.0, f.count)));
             buffers = record {
               finishes = record { list = f.list; means = c; count = f.count };

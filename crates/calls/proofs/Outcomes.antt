@@ -21,7 +21,7 @@ use Rattle.meaning.proofs.Evaluation.{clash, evaluates_exists}
 use Rattle.words.specs.Words.{zone_words}
 use Rattle.outcome.proofs.Numbers.{same_number}
 use Rattle.calls.specs.Causes.{CallAs.accepted}
-use Rattle.calls.specs.Outcome.{Outcome, RecordingLength, RecordingHead, RecordingChange, DrillLength, DrillForm, DrillLetter, DrillRange, DrillDepth, WorkShort, Overflow, AnswerShort, RoundsSpent, Finished, returned, both, answer-buffer, leaves, Comes, largest, room, NoRoom, refusals}
+use Rattle.calls.specs.Outcome.{Err, Outcome, RecordingLength, RecordingHead, RecordingChange, DrillLength, DrillForm, DrillLetter, DrillRange, DrillDepth, WorkShort, Overflow, AnswerShort, RoundsSpent, listing, returned, both, answer-buffer, leaves, Comes, largest, room, NoRoom, refusals}
 use Rattle.calls.specs.Within.{CauseWithin, refusals_within, CallWithin}
 use Rattle.purse.specs.Purse.{Overflowing, Exceeding}
 use Rattle.calls.proofs.Causes.{NoneOf, none, ◌also◌, none_of, none_append, refused_at}
@@ -39,10 +39,10 @@ in_order_within = refl
 
 -- the causes of a recording, 1 to 3, and of a drill, 4 to 8
 abbrev pub recordings : List Outcome
-recordings = RecordingLength ∷ RecordingHead ∷ RecordingChange ∷ []
+recordings = Err RecordingLength ∷ Err RecordingHead ∷ Err RecordingChange ∷ []
 
 abbrev pub drills : List Outcome
-drills = DrillLength ∷ DrillForm ∷ DrillLetter ∷ DrillRange ∷ DrillDepth ∷ []
+drills = Err DrillLength ∷ Err DrillForm ∷ Err DrillLetter ∷ Err DrillRange ∷ Err DrillDepth ∷ []
 
 -- a drill's cause has a number up to 8
 drill_number : {text : List ℕ} {channels n : ℕ} → DrillCause text channels n → n ≡ 13 → ⊥
@@ -60,17 +60,17 @@ module _ (bytes text : List ℕ) (left answer work : ℕ) where
   -- ---- the recording
 
   abbrev pub RecordingCall : Reading → Type 0
-  RecordingCall WrongLength = CallWithin bytes text left answer work RecordingLength
-  RecordingCall WrongHead = CallWithin bytes text left answer work RecordingHead
-  RecordingCall WrongChange = CallWithin bytes text left answer work RecordingChange
+  RecordingCall WrongLength = CallWithin bytes text left answer work (Err RecordingLength)
+  RecordingCall WrongHead = CallWithin bytes text left answer work (Err RecordingHead)
+  RecordingCall WrongChange = CallWithin bytes text left answer work (Err RecordingChange)
   RecordingCall (Recorded size) = Without recordings
 
   -- What reading the recording answers decides the call, or rules out 1 to 3.
   pub recording_call : (a : Reading) → ReadingAs largest bytes a → RecordingCall a
-  recording_call WrongLength r = refused_at [] _ RecordingLength refl none r.holds
-  recording_call WrongHead r = refused_at (RecordingLength ∷ []) _ RecordingHead refl (r.first 1 (omega arith) also none) r.holds
+  recording_call WrongLength r = refused_at [] _ (Err RecordingLength) refl none r.holds
+  recording_call WrongHead r = refused_at (Err RecordingLength ∷ []) _ (Err RecordingHead) refl (r.first 1 (omega arith) also none) r.holds
   recording_call WrongChange r =
-      refused_at (RecordingLength ∷ RecordingHead ∷ []) _ RecordingChange refl (r.first 1 (omega arith) also r.first 2 (omega arith) also none) r.holds
+      refused_at (Err RecordingLength ∷ Err RecordingHead ∷ []) _ (Err RecordingChange) refl (r.first 1 (omega arith) also r.first 2 (omega arith) also none) r.holds
   recording_call (Recorded size) r = r.0 1 also r.0 2 also r.0 3 also none
 
   -- ---- the drill
@@ -81,25 +81,25 @@ module _ (bytes text : List ℕ) (left answer work : ℕ) where
 
   drill_first : Without recordings → (n : ℕ) → DrillCause text (channels bytes) n → ((m : ℕ) → m < n → ¬ DrillCause text (channels bytes) m)
       → (o : Outcome) × ((returned o).number ≡ n) × (leaves o ≡ both) × CallWithin bytes text left answer work o
-  drill_first n _ (wrong_length x) f = (DrillLength, refl, refl, after_recordings n [] _ DrillLength refl none (wrong_length x))
-  drill_first n _ (no_form x) f = (DrillForm, refl, refl, after_recordings n (DrillLength ∷ []) _ DrillForm refl (f 4 (omega arith) also none) (no_form x))
+  drill_first n _ (wrong_length x) f = (Err DrillLength, refl, refl, after_recordings n [] _ (Err DrillLength) refl none (wrong_length x))
+  drill_first n _ (no_form x) f = (Err DrillForm, refl, refl, after_recordings n (Err DrillLength ∷ []) _ (Err DrillForm) refl (f 4 (omega arith) also none) (no_form x))
   drill_first n _ (wrong_letter x y z) f = (
-    DrillLetter,
+    Err DrillLetter,
     refl,
     refl,
-    after_recordings n (DrillLength ∷ DrillForm ∷ []) _ DrillLetter refl (f 4 (omega arith) also f 5 (omega arith) also none) (wrong_letter x y z),
+    after_recordings n (Err DrillLength ∷ Err DrillForm ∷ []) _ (Err DrillLetter) refl (f 4 (omega arith) also f 5 (omega arith) also none) (wrong_letter x y z),
   )
   drill_first n _ (wrong_range x y z) f = (
-    DrillRange,
+    Err DrillRange,
     refl,
     refl,
-    after_recordings n (DrillLength ∷ DrillForm ∷ DrillLetter ∷ []) _ DrillRange refl (f 4 (omega arith) also f 5 (omega arith) also f 6 (omega arith) also none) (wrong_range x y z),
+    after_recordings n (Err DrillLength ∷ Err DrillForm ∷ Err DrillLetter ∷ []) _ (Err DrillRange) refl (f 4 (omega arith) also f 5 (omega arith) also f 6 (omega arith) also none) (wrong_range x y z),
   )
   drill_first n _ (too_deep x y) f = (
-    DrillDepth,
+    Err DrillDepth,
     refl,
     refl,
-    after_recordings n (DrillLength ∷ DrillForm ∷ DrillLetter ∷ DrillRange ∷ []) _ DrillDepth refl
+    after_recordings n (Err DrillLength ∷ Err DrillForm ∷ Err DrillLetter ∷ Err DrillRange ∷ []) _ (Err DrillDepth) refl
         (f 4 (omega arith) also f 5 (omega arith) also f 6 (omega arith) also f 7 (omega arith) also none) (too_deep x y),
   )
 
@@ -116,31 +116,31 @@ module _ (bytes text : List ℕ) (left answer work : ℕ) where
   -- ---- the buffers
 
   module _ (before : Without (recordings ++ drills)) where
-    pub work_call : work < room → CallWithin bytes text left answer work WorkShort
-    work_call h = refused_at (recordings ++ drills) _ WorkShort refl before h
+    pub work_call : work < room → CallWithin bytes text left answer work (Err WorkShort)
+    work_call h = refused_at (recordings ++ drills) _ (Err WorkShort) refl before h
 
     module _ (enough : room ≤ work) where
-      roomy : Without (recordings ++ (drills ++ (WorkShort ∷ [])))
+      roomy : Without (recordings ++ (drills ++ (Err WorkShort ∷ [])))
       roomy = none_append before ((λ h. omega arith) also none)
 
-      pub overflow_call : Overflowing (Comes bytes text) left → CallWithin bytes text left answer work Overflow
-      overflow_call o = refused_at (recordings ++ (drills ++ (WorkShort ∷ []))) _ Overflow refl roomy o
+      pub overflow_call : Overflowing (Comes bytes text) left → CallWithin bytes text left answer work (Err Overflow)
+      overflow_call o = refused_at (recordings ++ (drills ++ (Err WorkShort ∷ []))) _ (Err Overflow) refl roomy o
 
       -- 10 and 13 exclude each other
       not_both : Exceeding (Comes bytes text) left → ¬ Overflowing (Comes bytes text) left
       not_both x o = let e = ap begun (comes_unique x.means o.means) in omega (arith, x.beyond, o.within)
 
-      pub spent_call : Exceeding (Comes bytes text) left → CallWithin bytes text left answer work RoundsSpent
-      spent_call x = refused_at (recordings ++ (drills ++ (WorkShort ∷ Overflow ∷ []))) _ RoundsSpent refl (none_append roomy (not_both x also none)) x
+      pub spent_call : Exceeding (Comes bytes text) left → CallWithin bytes text left answer work (Err RoundsSpent)
+      spent_call x = refused_at (recordings ++ (drills ++ (Err WorkShort ∷ Err Overflow ∷ []))) _ (Err RoundsSpent) refl (none_append roomy (not_both x also none)) x
 
       module _ {L : List Zone} {r : ℕ} (comes : Comes bytes text (value L r)) (within : r ≤ left) where
-        listed : Without (recordings ++ (drills ++ (WorkShort ∷ Overflow ∷ RoundsSpent ∷ [])))
+        listed : Without (recordings ++ (drills ++ (Err WorkShort ∷ Err Overflow ∷ Err RoundsSpent ∷ [])))
         listed = none_append roomy ((λ o. clash (comes_unique comes o.means)) also (λ x. let e = ap begun (comes_unique comes x.means) in omega (arith, x.beyond)) also none)
 
-        pub answer_call : answer < length L * zone_words → CallWithin bytes text left answer work AnswerShort
-        answer_call h = refused_at (recordings ++ (drills ++ (WorkShort ∷ Overflow ∷ RoundsSpent ∷ []))) _ AnswerShort refl listed (L, r, comes, h)
+        pub answer_call : answer < length L * zone_words → CallWithin bytes text left answer work (Err AnswerShort)
+        answer_call h = refused_at (recordings ++ (drills ++ (Err WorkShort ∷ Err Overflow ∷ Err RoundsSpent ∷ []))) _ (Err AnswerShort) refl listed (L, r, comes, h)
 
-        pub accepted_call : length L * zone_words ≤ answer → CallWithin bytes text left answer work (Finished (length L) r)
+        pub accepted_call : length L * zone_words ≤ answer → CallWithin bytes text left answer work (listing (length L) r)
         accepted_call h =
             accepted (none_of (none_append listed (long also none)))
             (record { list = L; means = comes; count = refl })
@@ -152,7 +152,7 @@ module _ (bytes text : List ℕ) (left answer work : ℕ) where
 
   -- what an outcome rests on: it leaves both buffers, or a value of the drill is known, or it is a finished list
   abbrev Rests : Outcome → Type 0
-  Rests o = (leaves o ≡ both) ⊎ (((leaves o ≡ answer-buffer) × (v : Value) × Comes bytes text v) ⊎ ((zones : ℕ) × (rounds : ℕ) × (o ≡ Finished zones rounds)))
+  Rests o = (leaves o ≡ both) ⊎ (((leaves o ≡ answer-buffer) × (v : Value) × Comes bytes text v) ⊎ ((zones : ℕ) × (rounds : ℕ) × (o ≡ listing zones rounds)))
 
   -- Every call has an outcome, and one that is told as many rounds as any drill begins is not stopped.
   abbrev pub Some : Type 0
@@ -163,15 +163,15 @@ module _ (bytes text : List ℕ) (left answer work : ℕ) where
     where
       finish : Without (recordings ++ drills) → room ≤ work → (v : Value) → begun v ≤ most_rounds → Comes bytes text v → Some
       finish n h (overflow b f) few c = elim (dec_le b left) [
-        | yes k ↦ (Overflow, overflow_call n h (record { opened = b; done = f; means = c; within = k }), λ e. absurd (omega arith), inr (inl (refl, overflow b f, c)))
-        | no k ↦ (RoundsSpent, spent_call n h (record { whole = overflow b f; means = c; beyond = omega arith }), λ _. omega arith, inr (inl (refl, overflow b f, c)))
+        | yes k ↦ (Err Overflow, overflow_call n h (record { opened = b; done = f; means = c; within = k }), λ e. absurd (omega arith), inr (inl (refl, overflow b f, c)))
+        | no k ↦ (Err RoundsSpent, spent_call n h (record { whole = overflow b f; means = c; beyond = omega arith }), λ _. omega arith, inr (inl (refl, overflow b f, c)))
       ]
       finish n h (value L r) few c = elim (dec_le r left) [
         | yes k ↦ elim (dec_le (length L * zone_words) answer) [
-          | yes l ↦ (Finished (length L) r, accepted_call n h c k l, λ e. absurd (omega arith), inr (inr (length L, r, refl)))
-          | no l ↦ (AnswerShort, answer_call n h c k (omega arith), λ e. absurd (omega arith), inr (inl (refl, value L r, c)))
+          | yes l ↦ (listing (length L) r, accepted_call n h c k l, λ e. absurd (omega arith), inr (inr (length L, r, refl)))
+          | no l ↦ (Err AnswerShort, answer_call n h c k (omega arith), λ e. absurd (omega arith), inr (inl (refl, value L r, c)))
         ]
-        | no k ↦ (RoundsSpent, spent_call n h (record { whole = value L r; means = c; beyond = omega arith }), λ _. omega arith, inr (inl (refl, value L r, c)))
+        | no k ↦ (Err RoundsSpent, spent_call n h (record { whole = value L r; means = c; beyond = omega arith }), λ _. omega arith, inr (inl (refl, value L r, c)))
       ]
 
       given : Without recordings → 0 < ticks bytes → ticks bytes ≤ 1_000_000 → (e : Expression) → Accepted text (channels bytes) e → Some
@@ -180,13 +180,13 @@ module _ (bytes text : List ℕ) (left answer work : ℕ) where
             let v = evaluates_exists (recording_finite bytes 0 (ticks bytes)) some e in
             let c : Comes bytes text v.0 = record { drill = e; form = a.form; evaluates = v.1 } in
             finish (drill_none n a) h v.0 (comes_few some short (a.none 8) c) c
-        | no h ↦ (WorkShort, work_call (drill_none n a) (omega arith), λ e. absurd (omega arith), inl refl)
+        | no h ↦ (Err WorkShort, work_call (drill_none n a) (omega arith), λ e. absurd (omega arith), inl refl)
       ]
 
       read : (a : Reading) → ReadingAs largest bytes a → Some
-      read WrongLength r = (RecordingLength, recording_call WrongLength r, λ e. absurd (omega arith), inl refl)
-      read WrongHead r = (RecordingHead, recording_call WrongHead r, λ e. absurd (omega arith), inl refl)
-      read WrongChange r = (RecordingChange, recording_call WrongChange r, λ e. absurd (omega arith), inl refl)
+      read WrongLength r = (Err RecordingLength, recording_call WrongLength r, λ e. absurd (omega arith), inl refl)
+      read WrongHead r = (Err RecordingHead, recording_call WrongHead r, λ e. absurd (omega arith), inl refl)
+      read WrongChange r = (Err RecordingChange, recording_call WrongChange r, λ e. absurd (omega arith), inl refl)
       read (Recorded size) r =
           let n = recording_call (Recorded size) r in
           let h = r.1.headed in

@@ -9,8 +9,9 @@ use Rattle.meaning.specs.Lists.{Value, overflow, Evaluates}
 use Rattle.calls.specs.Causes as calls
 pub use Rattle.delivery.specs.Buffers.{room, NoRoom, Finishes, words, fronted, zeroed, cleared, BothKept, AnswerKept, Delivered}
 pub use Rattle.outcome.specs.declared.Returned.{Returned}
-pub use Rattle.outcome.specs.declared.Outcome.{Outcome}
-pub use Rattle.outcome.specs.declared.Outcome.TheVariants.{
+pub use Rattle.outcome.specs.declared.Finished.{Finished}
+pub use Rattle.outcome.specs.declared.Refusal.{Refusal}
+pub use Rattle.outcome.specs.declared.Refusal.TheVariants.{
   RecordingLength,
   RecordingHead,
   RecordingChange,
@@ -24,9 +25,8 @@ pub use Rattle.outcome.specs.declared.Outcome.TheVariants.{
   AnswerShort,
   SheetForm,
   RoundsSpent,
-  Finished,
 }
-pub use Rattle.outcome.specs.Outcome.{returned, Left, both, answer-buffer, delivered, leaves, front_of}
+pub use Rattle.outcome.specs.Outcome.{Outcome, Ok, Err, number_of, returned, listing, Left, both, answer-buffer, delivered, leaves, front_of}
 
 -- ---- the causes
 
@@ -44,25 +44,25 @@ largest = 32768
 -- it `overflows`, and when they are `spent`
 abbrev pub CauseOf : (overflows spent : Type 0) (bytes text : List ℕ) (answer work : ℕ) → Outcome → Type 0
 -- "recording of length 0, over 32,768 or not a multiple of 8", "head wrong in any field", "a change wrong in any field"
-CauseOf overflows spent bytes text answer work RecordingLength = RecordingCause largest bytes 1
-CauseOf overflows spent bytes text answer work RecordingHead = RecordingCause largest bytes 2
-CauseOf overflows spent bytes text answer work RecordingChange = RecordingCause largest bytes 3
+CauseOf overflows spent bytes text answer work (Err RecordingLength) = RecordingCause largest bytes 1
+CauseOf overflows spent bytes text answer work (Err RecordingHead) = RecordingCause largest bytes 2
+CauseOf overflows spent bytes text answer work (Err RecordingChange) = RecordingCause largest bytes 3
 -- "drill of length 0 or over 255", "drill not of the form above", "a letter at or beyond the channel count",
 -- "lo or hi above 1,000,000, or lo > hi" and "Equal lo and hi with a `<` on either", "depth above 16"
-CauseOf overflows spent bytes text answer work DrillLength = DrillCause text (channels bytes) 4
-CauseOf overflows spent bytes text answer work DrillForm = DrillCause text (channels bytes) 5
-CauseOf overflows spent bytes text answer work DrillLetter = DrillCause text (channels bytes) 6
-CauseOf overflows spent bytes text answer work DrillRange = DrillCause text (channels bytes) 7
-CauseOf overflows spent bytes text answer work DrillDepth = DrillCause text (channels bytes) 8
+CauseOf overflows spent bytes text answer work (Err DrillLength) = DrillCause text (channels bytes) 4
+CauseOf overflows spent bytes text answer work (Err DrillForm) = DrillCause text (channels bytes) 5
+CauseOf overflows spent bytes text answer work (Err DrillLetter) = DrillCause text (channels bytes) 6
+CauseOf overflows spent bytes text answer work (Err DrillRange) = DrillCause text (channels bytes) 7
+CauseOf overflows spent bytes text answer work (Err DrillDepth) = DrillCause text (channels bytes) 8
 -- "work buffer under 16,384 words"
-CauseOf overflows spent bytes text answer work WorkShort = work < room
-CauseOf overflows spent bytes text answer work Overflow = overflows
+CauseOf overflows spent bytes text answer work (Err WorkShort) = work < room
+CauseOf overflows spent bytes text answer work (Err Overflow) = overflows
 -- "answer buffer under 6 words a zone"
-CauseOf overflows spent bytes text answer work AnswerShort = NoRoom (Comes bytes text) answer
+CauseOf overflows spent bytes text answer work (Err AnswerShort) = NoRoom (Comes bytes text) answer
 -- a sheet's, and no drill's
-CauseOf overflows spent bytes text answer work SheetForm = ⊥
-CauseOf overflows spent bytes text answer work RoundsSpent = spent
-CauseOf overflows spent bytes text answer work (Finished zones rounds) = ⊥
+CauseOf overflows spent bytes text answer work (Err SheetForm) = ⊥
+CauseOf overflows spent bytes text answer work (Err RoundsSpent) = spent
+CauseOf overflows spent bytes text answer work (Ok f) = ⊥
 
 -- those of `find`: "a put would leave a list of 129 zones", after however many rounds; it has no limit on rounds
 abbrev pub Cause : (bytes text : List ℕ) (answer work : ℕ) → Outcome → Type 0
@@ -71,7 +71,7 @@ Cause bytes text answer work = CauseOf ((b : ℕ) × (f : ℕ) × Comes bytes te
 -- "Checked in the order of the numbers"
 abbrev pub refusals : List Outcome
 refusals =
-    RecordingLength ∷ RecordingHead ∷ RecordingChange ∷ DrillLength ∷ DrillForm ∷ DrillLetter ∷ DrillRange ∷ DrillDepth ∷ WorkShort ∷ Overflow ∷ AnswerShort ∷ []
+    Err RecordingLength ∷ Err RecordingHead ∷ Err RecordingChange ∷ Err DrillLength ∷ Err DrillForm ∷ Err DrillLetter ∷ Err DrillRange ∷ Err DrillDepth ∷ Err WorkShort ∷ Err Overflow ∷ Err AnswerShort ∷ []
 
 -- ---- which outcome a call of `find` has: the first cause of its list, or no cause and the finished list
 

@@ -4,6 +4,7 @@ use Rattle.meaning.specs.Lists.{Value}
 use Rattle.purse.specs.Purse.{Overflowing, Exceeding, Spending}
 use Rattle.calls.specs.Causes as calls
 use Rattle.calls.specs.Outcome.{
+  Err,
   Outcome,
   RecordingLength,
   RecordingHead,
@@ -36,7 +37,7 @@ CauseWithin bytes text left answer work = CauseOf (Overflowing (Comes bytes text
 -- in the order in which they come: 13 in the building of the lists, as 10, and 11 when they are finished
 abbrev pub refusals_within : List Outcome
 refusals_within =
-    RecordingLength ∷ RecordingHead ∷ RecordingChange ∷ DrillLength ∷ DrillForm ∷ DrillLetter ∷ DrillRange ∷ DrillDepth ∷ WorkShort ∷ Overflow ∷ RoundsSpent ∷ AnswerShort ∷ []
+    Err RecordingLength ∷ Err RecordingHead ∷ Err RecordingChange ∷ Err DrillLength ∷ Err DrillForm ∷ Err DrillLetter ∷ Err DrillRange ∷ Err DrillDepth ∷ Err WorkShort ∷ Err Overflow ∷ Err RoundsSpent ∷ Err AnswerShort ∷ []
 
 -- which outcome the call has
 abbrev pub FirstWithin : (bytes text : List ℕ) (left answer work : ℕ) → Outcome → Type 0

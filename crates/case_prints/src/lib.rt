@@ -2,7 +2,7 @@
 #![tactic(auto)]
 
 use finder::WORK_WORDS;
-use outcome::Outcome;
+use outcome::{Outcome, Returned};
 use sheet::Printed;
 use std::io;
 
@@ -22,7 +22,7 @@ pub fn print_call(
     work: &[i32],
     told: usize,
 ) -> io::Result<()> {
-    let returned = outcome.returned();
+    let returned = Returned::from(outcome);
     case_parts::print_returned(rt, returned.number, returned.zones, returned.rounds)?;
     let listed = outcome::front(answer, returned.zones);
     case_parts::print_answer_state(rt, answer, listed.len())?;

@@ -1,44 +1,15 @@
 -- Words written in front of a buffer, one after the other.
 use mathlib.Core.Path.{◌≡◌, refl, sym, ap, ◌∙◌}
-use mathlib.Core.List.{List, [], ◌∷◌, ◌++◌}
+use mathlib.Core.List.{List, ◌∷◌, ◌++◌}
 use Prim.Native.Nat.{ℕ, zero, suc, ◌+◌, ◌*◌, ◌≤◌, ◌<◌}
-use native.Mathlib.Nat.{not-suc-le-zero, le_of_suc-le-suc}
-use native.Mathlib.Numerals.{add-one}
 use native.Mathlib.Omega.{arith}
 use lib.IntN.{ℤ, pos}
-use lib.ListN.{length, set, take, drop, replicate, length-replicate, replicate-append-replicate, length-drop}
-use lib.Seq.{take-suc, drop-cons, length-take-le, ext_get_or, get_or-drop}
+use lib.ListN.{length, take, drop, replicate, length-replicate, length-drop}
+use lib.Seq.{drop-cons, ext_get_or, get_or-drop}
 use Rattle.words.specs.Words.{zone_words, word}
 use Rattle.words.proofs.Words.{codes_read}
 use Rattle.list.specs.Slots.{list_at, Kept}
 use Rattle.delivery.specs.Buffers.{room, words, fronted, zeroed, cleared}
-
-pub fronted_none : (ws : List ℤ) → ws ≡ fronted [] ws
-unfolding fronted
-fronted_none ws = refl
-
--- one word more, behind those in front
-fronted_snoc : (vs ws : List ℤ) (x : ℤ) → length vs < length ws → set (fronted vs ws) (length vs) x ≡ fronted (vs ++ (x ∷ [])) ws
-unfolding fronted
-fronted_snoc vs [] x h = absurd (not-suc-le-zero h)
-fronted_snoc [] (w ∷ ws) x h = refl
-fronted_snoc (v ∷ vs) (w ∷ ws) x h = ap (λ (l : List ℤ). v ∷ l) (fronted_snoc vs ws x (le_of_suc-le-suc h))
-
-fronted_at : (vs ws : List ℤ) (n : ℕ) (x : ℤ) → length vs ≡ n → n < length ws → set (fronted vs ws) n x ≡ fronted (vs ++ (x ∷ [])) ws
-fronted_at vs ws n x e h = rw (← e) (fronted_snoc vs ws x (omega arith))
-
--- ---- zeroes
-
-pub zeroed_more : (ws : List ℤ) (n : ℕ) → n < length ws → set (fronted (replicate n (pos 0)) ws) n (pos 0) ≡ fronted (replicate (n + 1) (pos 0)) ws
-zeroed_more ws n h =
-    fronted_at (replicate n (pos 0)) ws n (pos 0) (length-replicate n (pos 0)) h ∙ ap (λ (l : List ℤ). fronted l ws) (replicate-append-replicate n 1 (pos 0))
-
-zeroed_fronted : (ws : List ℤ) (n : ℕ) → fronted (replicate n (pos 0)) ws ≡ zeroed n ws
-unfolding zeroed
-zeroed_fronted ws n = refl
-
-pub zeroed_all : (ws : List ℤ) (n : ℕ) → n ≡ room → fronted (replicate n (pos 0)) ws ≡ cleared ws
-zeroed_all ws n e = zeroed_fronted ws n ∙ ap (λ (k : ℕ). zeroed k ws) e
 
 -- ---- words behind the front
 
@@ -58,10 +29,6 @@ pub cleared_kept : {size : ℕ} {ws vs : List ℤ} → Kept 0 size ws vs → siz
 cleared_kept k h = zeroed_kept room k h
 
 -- ---- words of another buffer
-
-pub copied_more : (vs ws : List ℤ) (n : ℕ) → n < length vs → n < length ws → set (fronted (take n vs) ws) n (word vs n) ≡ fronted (take (n + 1) vs) ws
-copied_more vs ws n g h =
-    fronted_at (take n vs) ws n (word vs n) (length-take-le n vs (omega arith)) h ∙ ap (λ (l : List ℤ). fronted l ws) (sym (take-suc vs n (pos 0) g) ∙ ap (λ (k : ℕ). take k vs) (sym (add-one n)))
 
 next : (ws : List ℤ) (a b : ℕ) → suc a ≡ b → a < length ws → drop a ws ≡ word ws a ∷ drop b ws
 next ws a b e h = drop-cons ws a (pos 0) h ∙ ap (λ (k : ℕ). word ws a ∷ drop k ws) e

@@ -15,8 +15,10 @@ use Rattle.purse.specs.declared.Evaluated.{Evaluated}
 use Rattle.purse.specs.declared.Evaluated.TheVariants.{Listed, Overflow, Spent}
 use Rattle.meaning.specs.Lists.{Value, value, overflow, begun, spent}
 use Rattle.purse.specs.Purse.{EvaluatedAs, Spending}
-use Rattle.delivery.specs.declared.Worked.{Worked}
-use Rattle.delivery.specs.declared.Worked.TheVariants.{AnswerShort, Finished}
+use Rattle.std.specs.Prelude.{Result, Ok, Err}
+use Rattle.outcome.specs.declared.Finished.{Finished}
+use Rattle.delivery.specs.declared.Shortage.{Shortage}
+use Rattle.delivery.specs.declared.Shortage.TheVariants.{AnswerShort}
 use Rattle.delivery.specs.Buffers.{room, words, fronted, cleared}
 use Rattle.delivery.specs.Steps.{InFront, comes_to, left_of, answer_after}
 use Rattle.delivery.specs.Working.{WorkedAs}
@@ -37,7 +39,7 @@ spends comes told ws almost Spent x = record { whole = x.whole; means = x.means;
 -- The evaluator's answer, delivered where there is room for it, and the work buffer cleared: what the evaluator wrote is among the words that are cleared.
 module _ (comes : Value → Type 0) (almost : (v : Value) → comes v → begun v ≤ suc (spent v)) (told : ℕ) {size : ℕ} (answer : List ℤ) {work ws : List ℤ}
     (enough : room ≤ length work) (few : size ≤ room) (k : Kept 0 size work ws) where
-  pub worked : (r : Evaluated) {left : ℕ} {answer' work' : List ℤ} {w : Worked} → EvaluatedAs comes told ws 0 r → w ≡ comes_to r told (length answer) → left ≡ left_of r
+  pub worked : (r : Evaluated) {left : ℕ} {answer' work' : List ℤ} {w : Result Finished Shortage} → EvaluatedAs comes told ws 0 r → w ≡ comes_to r told (length answer) → left ≡ left_of r
       → answer' ≡ answer_after r ws answer → work' ≡ cleared ws → WorkedAs comes told w left answer work answer' work'
   worked (Overflow left) h e l f g = rw (e, l) (enough, h.overflowing, spends comes told ws almost (Overflow left) h, record { answer_kept = f; work_cleared = g ∙ cleared_kept k few })
   worked Spent x e l f g = rw (e, l) (enough, x, spends comes told ws almost Spent x, record { answer_kept = f; work_cleared = g ∙ cleared_kept k few })
@@ -47,7 +49,7 @@ module _ (comes : Value → Type 0) (almost : (v : Value) → comes v → begun 
       rounds_are = omega (arith, h.spends)
 
       at : (b : Bool) → leb (count * zone_words) (length answer) ≡ b → answer' ≡ cond b (fronted (words (list_at ws 0 count)) answer) answer
-          → WorkedAs comes told (cond b (Finished count (told - left)) AnswerShort) left answer work answer' work'
+          → WorkedAs comes told (cond b (Ok (record { zones = count; rounds = told - left })) (Err AnswerShort)) left answer work answer' work'
       at true t q = (
         enough,
         (leb-true (count * zone_words) (length answer) t, omega (arith, h.spends)),

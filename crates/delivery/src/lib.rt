@@ -11,8 +11,9 @@ ghost use Rattle.recording.specs.Reading.{IsRecording};
 ghost use Rattle.evaluation.specs.Evaluating.{Rooted};
 ghost use Rattle.delivery.specs.Buffers.{room, words, fronted, cleared};
 ghost use Rattle.delivery.specs.Steps.{InFront, comes_to, left_of, answer_after};
-ghost use Rattle.delivery.specs.Working.{Works};
+ghost use Rattle.delivery.specs.Working.{refusal_of, Works};
 
+use outcome::{Finished, Refusal};
 use primaries::Window;
 use purse::Evaluated;
 use recording::Dimensions;
@@ -20,14 +21,27 @@ use recording::Dimensions;
 // The work words that a call needs.
 pub const WORK_WORDS: usize = 16_384;
 
-// What a stored drill comes to, with the lent buffers and the rounds told: the refusals 9, 10, 13 and 11, or its finished list.
+// What a stored drill has too little of, in the lent buffers and the rounds told: the causes of the refusals 9, 10, 13 and 11.
 #[derive(Clone, Copy)]
-pub enum Worked {
+pub enum Shortage {
     WorkShort,
     Overflow,
     RoundsSpent,
     AnswerShort,
-    Finished { zones: usize, rounds: u64 },
+}
+
+// The refusal of a call by each shortage.
+impl From<Shortage> for Refusal {
+    ghost from_gives = { λ s r. r ≡ refusal_of s };
+
+    fn from(shortage: Shortage) -> Refusal {
+        match shortage {
+            Shortage::WorkShort => Refusal::WorkShort,
+            Shortage::Overflow => Refusal::Overflow,
+            Shortage::RoundsSpent => Refusal::RoundsSpent,
+            Shortage::AnswerShort => Refusal::AnswerShort,
+        }
+    }
 }
 
 // Zeroes the work words that a call may have used.
@@ -35,11 +49,7 @@ fn clear(work: &mut [i32])
     requires { room ≤ length work.old }
     ensures { work.new ≡ cleared work.old }
 {
-    let mut i = 0;
-    while i < WORK_WORDS {
-        work[i] = 0;
-        i += 1;
-    }
+    work[..WORK_WORDS].fill(0);
 }
 
 // Copies the words of the first slot's zones to the front of the answer.
@@ -48,15 +58,16 @@ fn fill(work: &[i32], answer: &mut [i32], count: usize)
     ensures { answer.new ≡ fronted (words (list_at work.now 0 count)) answer.old }
 {
     let n = count * words::ZONE_WORDS;
-    let mut i = 0;
-    while i < n {
-        answer[i] = work[i];
-        i += 1;
-    }
+    answer[..n].copy_from_slice(&work[..n]);
 }
 
 // The evaluated list in front of the answer, where that has room for it; the rounds it had are spent, those of a list without room too.
-fn deliver(evaluated: Evaluated, left: &mut u64, work: &[i32], answer: &mut [i32]) -> Worked
+fn deliver(
+    evaluated: Evaluated,
+    left: &mut u64,
+    work: &[i32],
+    answer: &mut [i32],
+) -> Result<Finished, Shortage>
     requires { InFront evaluated left.old (length work.now) }
     ensures { (result ≡ comes_to evaluated left.old (length answer.old)) × (left.new ≡ left_of evaluated) × (answer.new ≡ answer_after evaluated work.now answer.old) }
 {
@@ -65,21 +76,21 @@ fn deliver(evaluated: Evaluated, left: &mut u64, work: &[i32], answer: &mut [i32
             let rounds = *left - after;
             *left = after;
             if answer.len() / words::ZONE_WORDS < count {
-                return Worked::AnswerShort;
+                return Err(Shortage::AnswerShort);
             }
             fill(work, answer, count);
-            Worked::Finished {
+            Ok(Finished {
                 zones: count,
                 rounds,
-            }
+            })
         }
         Evaluated::Overflow { left: unspent } => {
             *left = unspent;
-            Worked::Overflow
+            Err(Shortage::Overflow)
         }
         Evaluated::Spent => {
             *left = 0;
-            Worked::RoundsSpent
+            Err(Shortage::RoundsSpent)
         }
     }
 }
@@ -93,12 +104,12 @@ pub fn work_out(
     left: &mut u64,
     answer: &mut [i32],
     work: &mut [i32],
-) -> Worked
+) -> Result<Finished, Shortage>
     requires { (IsRecording bytes.now size) × (Rooted nodes.now size.channels root 16) }
     ensures { Works bytes.now nodes.now size root left.old result left.new answer.old work.old answer.new work.new }
 {
     if work.len() < WORK_WORDS {
-        return Worked::WorkShort;
+        return Err(Shortage::WorkShort);
     }
     let whole = Window {
         size,

@@ -11,7 +11,7 @@ use lib.ListN.{length, replicate, length-replicate}
 use Rattle.words.specs.Words.{zone_words}
 use Rattle.delivery.specs.Buffers.{zeroed, cleared}
 use Rattle.calls.specs.Causes.{CallAs.refused, CallAs.accepted}
-use Rattle.calls.specs.Outcome.{Outcome, WorkShort, Overflow, RoundsSpent, AnswerShort, Finished, returned, Left, both, answer-buffer, leaves, room, Comes, LeftAs, BuffersAs}
+use Rattle.calls.specs.Outcome.{Err, Outcome, WorkShort, Overflow, RoundsSpent, AnswerShort, listing, returned, Left, both, answer-buffer, leaves, room, Comes, LeftAs, BuffersAs}
 use Rattle.calls.specs.Within.{CauseWithin, CallWithin, WithinAs}
 use Rattle.calls.proofs.Causes.{none, ◌also◌, none_of, Alike, nothing, both as Alike-both, first_split, call_unique}
 use Rattle.calls.proofs.Comes.{finishes_once}
@@ -41,8 +41,8 @@ module _ {bytes text : List ℕ} {told answer work : ℕ} where
     | yes h ↦ h
     | no h ↦ absurd (⊎_elim
         (λ g. let k = g [] in nine_keep (subst (Memᴰ o) (sym k.place) (append_right k.earlier (Memᴰ.head refl))) e)
-        (λ g. none_of g.0 WorkShort (append_right (recordings ++ drills) (Memᴰ.head refl)) (omega arith))
-        (first_split (CauseWithin bytes text told answer work) (CauseWithin bytes text told answer work) {A = nine} {B = Overflow ∷ RoundsSpent ∷ AnswerShort ∷ []} (same_causes nine) f))
+        (λ g. none_of g.0 (Err WorkShort) (append_right (recordings ++ drills) (Memᴰ.head refl)) (omega arith))
+        (first_split (CauseWithin bytes text told answer work) (CauseWithin bytes text told answer work) {A = nine} {B = Err Overflow ∷ Err RoundsSpent ∷ Err AnswerShort ∷ []} (same_causes nine) f))
   ]
   long_enough (accepted n f) e = let z : ◌≡◌ {A = ℕ} 0 1 = cc in absurd (omega arith)
 
@@ -67,13 +67,13 @@ lengths_kept {bytes} {text} {told} {left} {answer} {work} {answer'} {work'} {o} 
     used : leaves o ≡ answer-buffer → (length answer' ≡ length answer) × (length work' ≡ length work)
     used e = let b = left_as answer-buffer e in (ap length b.answer_kept, ap length b.work_cleared ∙ cleared_length work (long_enough h.outcome e))
 
-    listed : {z r : ℕ} → CallWithin bytes text told (length answer) (length work) (Finished z r) → BuffersAs bytes text (Finished z r) answer work answer' work'
+    listed : {z r : ℕ} → CallWithin bytes text told (length answer) (length work) (listing z r) → BuffersAs bytes text (listing z r) answer work answer' work'
         → (length answer' ≡ length answer) × (length work' ≡ length work)
     listed (refused f) b = absurd f.holds
     listed {z} {r} (accepted n f) b =
-        let room_for : ¬ (length answer < length b.finishes.list * zone_words) = λ q. n AnswerShort (append_right (nine ++ (Overflow ∷ RoundsSpent ∷ [])) (Memᴰ.head refl)) (b.finishes.list, r, b.finishes.means, q) in
-        let enough : ¬ (length work < room) = n WorkShort (append_right (recordings ++ drills) (Memᴰ.head refl)) in
+        let room_for : ¬ (length answer < length b.finishes.list * zone_words) = λ q. n (Err AnswerShort) (append_right (nine ++ (Err Overflow ∷ Err RoundsSpent ∷ [])) (Memᴰ.head refl)) (b.finishes.list, r, b.finishes.means, q) in
+        let enough : ¬ (length work < room) = n (Err WorkShort) (append_right (recordings ++ drills) (Memᴰ.head refl)) in
         (ap length b.answer_filled ∙ fronted_length _ answer (omega (arith, words_length b.finishes.list)), ap length b.work_cleared ∙ cleared_length work (omega arith))
 
-    finished : {z r : ℕ} → o ≡ Finished z r → (length answer' ≡ length answer) × (length work' ≡ length work)
+    finished : {z r : ℕ} → o ≡ listing z r → (length answer' ≡ length answer) × (length work' ≡ length work)
     finished e = listed (subst (CallWithin bytes text told (length answer) (length work)) e h.outcome) (subst (λ (p : Outcome). BuffersAs bytes text p answer work answer' work') e h.buffers)

@@ -9,7 +9,7 @@ use native.Mathlib.Decide.{dec_le}
 use native.Mathlib.Omega.{arith}
 use lib.IntN.{ℤ, pos}
 use lib.ListN.{length, get_or, replicate, length-replicate}
-use Rattle.outcome.specs.declared.Outcome.{Outcome}
+use Rattle.outcome.specs.Outcome.{Outcome}
 use Rattle.outcome.specs.Outcome.{returned}
 use Rattle.calls.specs.Causes.{First, NoCause}
 use Rattle.calls.specs.Outcome.{room}

@@ -1,6 +1,6 @@
 -- The promises of each call, with what is returned in a number and lent places.
 use Rattle.std.specs.Prelude.{◌≡◌, List, ◌∷◌, ℕ, ◌≤◌, ℤ, length, take, drop}
-use Rattle.outcome.specs.declared.Outcome.{Outcome}
+use Rattle.outcome.specs.Outcome.{Outcome}
 use Rattle.outcome.specs.Outcome.{returned}
 use Rattle.finder.specs.Demands.{Demand1, Demand1Within, Demand2, Demand3}
 use Rattle.lessons.specs.Lessons.{Demand1Lesson}

@@ -7,6 +7,8 @@ ghost use Rattle.outcome.specs.Outcome.{front_of};
 ghost use Rattle.lessons.specs.Lessons.{longest_lesson};
 ghost use Rattle.exports.specs.Exports.{Called, Uncalled, CalledWithin, UncalledWithin, CalledLesson, UncalledLesson};
 
+use outcome::Returned;
+
 // What no refusal has for its number: no call was made.
 const NO_CALL: u32 = 4_294_967_295;
 
@@ -27,7 +29,7 @@ pub extern "C" fn zikpasho_find(
         return NO_CALL;
     }
     let outcome = finder::find(recording, drill, answer, work);
-    let told = outcome.returned();
+    let told = Returned::from(outcome);
     counts[0] = told.zones as u64;
     counts[1] = told.rounds;
     told.number
@@ -51,7 +53,7 @@ pub extern "C" fn zikpasho_within(
         return NO_CALL;
     }
     let outcome = finder::find_within(recording, drill, left, answer, work);
-    let got = outcome.returned();
+    let got = Returned::from(outcome);
     counts[0] = got.zones as u64;
     counts[1] = got.rounds;
     got.number

@@ -23,7 +23,7 @@ use Rattle.descent.proofs.Complete.{unique}
 use Rattle.parser.proofs.Parses.{answered}
 use Rattle.meaning.specs.Lists.{value, overflow, spent, Value, repeated, RoundsOf, Sum}
 use Rattle.calls.specs.Causes.{CallAs.refused, CallAs.accepted}
-use Rattle.calls.specs.Outcome.{Outcome, RecordingHead, DrillLength, DrillForm, DrillLetter, DrillRange, DrillDepth, WorkShort, Overflow, AnswerShort, Finished, Returned, returned, Comes, largest, CallAs, words, fronted, cleared, front_of, Left, both, answer-buffer, delivered, leaves, LeftAs, BuffersAs, FindAs}
+use Rattle.calls.specs.Outcome.{Err, Outcome, RecordingHead, DrillLength, DrillForm, DrillLetter, DrillRange, DrillDepth, WorkShort, Overflow, AnswerShort, listing, Returned, returned, Comes, largest, CallAs, words, fronted, cleared, front_of, Left, both, answer-buffer, delivered, leaves, LeftAs, BuffersAs, FindAs}
 use Rattle.calls.specs.Within.{CallWithin, LeftAfter, WithinAs}
 use Rattle.finder.specs.Demands.{Exact, Total, NoInputCause}
 use Rattle.meaning.proofs.Evaluation.{evaluates_well, evaluates_exists}
@@ -60,11 +60,11 @@ comes_exact {bytes} {rounds = rounds} c =
       apart = λ A B C e. includes_none A B C (λ v m. (w.proper v (rw e m)).tight) (rw e at w.antichain);
     }
 
-module _ {bytes text : List ℕ} {answer work answer' work' : List ℤ} {zones rounds : ℕ} (h : FindAs bytes text answer work (Finished zones rounds) answer' work') where
+module _ {bytes text : List ℕ} {answer work answer' work' : List ℤ} {zones rounds : ℕ} (h : FindAs bytes text answer work (listing zones rounds) answer' work') where
   roomy : length h.buffers.finishes.list * zone_words ≤ length answer
   roomy =
       let f = h.buffers.finishes in
-      let none = (number_none (λ _ _ c. c) h.outcome).0 refl AnswerShort (append_right (recordings ++ (drills ++ (WorkShort ∷ Overflow ∷ []))) (Memᴰ.head refl)) in
+      let none = (number_none (λ _ _ c. c) h.outcome).0 refl (Err AnswerShort) (append_right (recordings ++ (drills ++ (Err WorkShort ∷ Err Overflow ∷ []))) (Memᴰ.head refl)) in
       let long : ¬ (length answer < length f.list * zone_words) = λ q. none (f.list, rounds, f.means, q) in
       omega arith
 
@@ -121,28 +121,28 @@ pub inputs_bounded : {bytes text : List ℕ} → NoInputCause bytes text → (to
 inputs_bounded {bytes} {text} none = ⊎_elim (λ a. given a.0 a.1) (λ r. absurd (ruled r.0 r.1.holds)) (answered text (channels bytes))
   where
     some : 0 < ticks bytes
-    some = some_ticks (none RecordingHead (Memᴰ.tail (Memᴰ.head refl)))
+    some = some_ticks (none (Err RecordingHead) (Memᴰ.tail (Memᴰ.head refl)))
 
     ruled : (n : ℕ) → ¬ DrillCause text (channels bytes) n
-    ruled _ (wrong_length x) = none DrillLength (append_right recordings (Memᴰ.head refl)) (wrong_length x)
-    ruled _ (no_form x) = none DrillForm (append_right (recordings ++ (DrillLength ∷ [])) (Memᴰ.head refl)) (no_form x)
-    ruled _ (wrong_letter x y z) = none DrillLetter (append_right (recordings ++ (DrillLength ∷ DrillForm ∷ [])) (Memᴰ.head refl)) (wrong_letter x y z)
+    ruled _ (wrong_length x) = none (Err DrillLength) (append_right recordings (Memᴰ.head refl)) (wrong_length x)
+    ruled _ (no_form x) = none (Err DrillForm) (append_right (recordings ++ (Err DrillLength ∷ [])) (Memᴰ.head refl)) (no_form x)
+    ruled _ (wrong_letter x y z) = none (Err DrillLetter) (append_right (recordings ++ (Err DrillLength ∷ Err DrillForm ∷ [])) (Memᴰ.head refl)) (wrong_letter x y z)
     ruled _ (wrong_range x y z) =
-        none DrillRange (append_right (recordings ++ (DrillLength ∷ DrillForm ∷ DrillLetter ∷ [])) (Memᴰ.head refl)) (wrong_range x y z)
+        none (Err DrillRange) (append_right (recordings ++ (Err DrillLength ∷ Err DrillForm ∷ Err DrillLetter ∷ [])) (Memᴰ.head refl)) (wrong_range x y z)
     ruled _ (too_deep x y) =
-        none DrillDepth (append_right (recordings ++ (DrillLength ∷ DrillForm ∷ DrillLetter ∷ DrillRange ∷ [])) (Memᴰ.head refl)) (too_deep x y)
+        none (Err DrillDepth) (append_right (recordings ++ (Err DrillLength ∷ Err DrillForm ∷ Err DrillLetter ∷ Err DrillRange ∷ [])) (Memᴰ.head refl)) (too_deep x y)
 
     total : (v : Value) → Comes bytes text v → (n : ℕ) × Total bytes text n
     total (value L r) c = (r, comes_bounded some c)
-    total (overflow b f) c = absurd (none Overflow (append_right (recordings ++ drills) (Memᴰ.head refl)) (b, f, c))
+    total (overflow b f) c = absurd (none (Err Overflow) (append_right (recordings ++ drills) (Memᴰ.head refl)) (b, f, c))
 
     given : (e : Expression) → Accepted text (channels bytes) e → (n : ℕ) × Total bytes text n
     given e a =
         let v = evaluates_exists (recording_finite bytes 0 (ticks bytes)) some e in total v.0 (record { drill = e; form = a.form; evaluates = v.1 })
 
 -- And what an accepted call reports is that total.
-pub call_bounded : {bytes text : List ℕ} {answer work : ℕ} {zones rounds : ℕ} → CallAs bytes text answer work (Finished zones rounds) → Total bytes text rounds
-call_bounded (accepted none f) = comes_bounded (some_ticks (none RecordingHead (Memᴰ.tail (Memᴰ.head refl)))) f.means
+pub call_bounded : {bytes text : List ℕ} {answer work : ℕ} {zones rounds : ℕ} → CallAs bytes text answer work (listing zones rounds) → Total bytes text rounds
+call_bounded (accepted none f) = comes_bounded (some_ticks (none (Err RecordingHead) (Memᴰ.tail (Memᴰ.head refl)))) f.means
 call_bounded (refused f) = absurd f.holds
 
 -- ---- buffers
@@ -199,11 +199,11 @@ within_exists bytes text left answer work =
       record { outcome = c; buffers = rw e (record { answer_kept = refl; work_cleared = refl }); rounds = rw e (record { whole = v; means = m; left_is = refl }) },
     )
 
-    finished : (zones rounds : ℕ) → CallWithin bytes text left (length answer) (length work) (Finished zones rounds)
+    finished : (zones rounds : ℕ) → CallWithin bytes text left (length answer) (length work) (listing zones rounds)
         → (o : Outcome) × (left' : ℕ) × (answer' : List ℤ) × (work' : List ℤ) × WithinAs bytes text left answer work o left' answer' work'
     finished zones rounds (refused f) = absurd f.holds
     finished zones rounds (accepted n f) = (
-      Finished zones rounds,
+      listing zones rounds,
       left - rounds,
       fronted (words f.list) answer,
       cleared work,

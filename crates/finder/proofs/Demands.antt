@@ -5,7 +5,7 @@ use Prim.Native.Nat.{ℕ, ◌≤◌}
 use native.Mathlib.Omega.{arith}
 use lib.IntN.{ℤ}
 use Rattle.outcome.proofs.Numbers.{zero_finished}
-use Rattle.calls.specs.Outcome.{Outcome, Finished, returned, CallAs, FindAs}
+use Rattle.calls.specs.Outcome.{Outcome, listing, returned, CallAs, FindAs}
 use Rattle.calls.specs.Within.{CallWithin, WithinAs}
 use Rattle.finder.specs.Demands.{Demand1, Demand1Within, Demand2, Demand3, Total, NoInputCause}
 use Rattle.calls.proofs.Causes.{call_unique, number_first, number_none}
@@ -41,7 +41,7 @@ module _ {bytes text : List ℕ} {answer work answer' work' : List ℤ} {o : Out
   pub demand_1 : Demand1 bytes text answer work o answer' work'
   demand_1 = record { defined = h; refuses = number_first h.outcome; accepts = number_none (λ _ _ c. c) h.outcome }
 
-  finished : (returned o).number ≡ 0 → FindAs bytes text answer work (Finished (returned o).zones (returned o).rounds) answer' work'
+  finished : (returned o).number ≡ 0 → FindAs bytes text answer work (listing (returned o).zones (returned o).rounds) answer' work'
   finished e = subst (λ (p : Outcome). FindAs bytes text answer work p answer' work') (zero_finished o e) h
 
   -- Demand 2: where it is accepted, some zone read back from the front of the answer holds a stretch exactly if the stretch fits the

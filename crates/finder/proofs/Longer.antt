@@ -12,7 +12,7 @@ use Rattle.recording.specs.declared.Reading.TheVariants.{WrongLength, WrongHead,
 use Rattle.recording.specs.Reading.{ReadingAs}
 use Rattle.recording.proofs.Refusals.{reading_exists, refused_length as refused-recording}
 use Rattle.parser.proofs.Parses.{refused_length}
-use Rattle.calls.specs.Outcome.{Outcome, RecordingLength, RecordingHead, RecordingChange, DrillLength, returned, Left, both, leaves, largest, Comes, CallAs, LeftAs, BuffersAs, FindAs}
+use Rattle.calls.specs.Outcome.{Err, Outcome, RecordingLength, RecordingHead, RecordingChange, DrillLength, returned, Left, both, leaves, largest, Comes, CallAs, LeftAs, BuffersAs, FindAs}
 use Rattle.calls.specs.Within.{CallWithin, LeftAfter, WithinAs}
 use Rattle.calls.proofs.Causes.{call_unique}
 use Rattle.calls.proofs.Comes.{finishes_once}
@@ -35,7 +35,7 @@ record Together (bytes text bytes' text' : List ℕ) (answer work : ℕ) : Type 
 long_recordings : (bytes text bytes' text' : List ℕ) (answer work : ℕ) → largest < length bytes → largest < length bytes' → Together bytes text bytes' text' answer work
 long_recordings bytes text bytes' text' answer work l m =
     record {
-      cause = RecordingLength;
+      cause = Err RecordingLength;
       keeps = refl;
       unstopped = λ e. omega arith;
       one = λ left. recording_call bytes text left answer work WrongLength (refused-recording (λ s. omega (arith, s.within)));
@@ -47,13 +47,13 @@ long_drills : (bytes text text' : List ℕ) (answer work : ℕ) → 255 < length
 long_drills bytes text text' answer work l m = let a = reading_exists largest bytes in go a.0 a.1
   where
     go : (a : Reading) → ReadingAs largest bytes a → Together bytes text bytes text' answer work
-    go WrongLength r = record { cause = RecordingLength; keeps = refl; unstopped = λ e. omega arith; one = λ left. recording_call bytes text left answer work WrongLength r; other = λ left. recording_call bytes text' left answer work WrongLength r }
-    go WrongHead r = record { cause = RecordingHead; keeps = refl; unstopped = λ e. omega arith; one = λ left. recording_call bytes text left answer work WrongHead r; other = λ left. recording_call bytes text' left answer work WrongHead r }
-    go WrongChange r = record { cause = RecordingChange; keeps = refl; unstopped = λ e. omega arith; one = λ left. recording_call bytes text left answer work WrongChange r; other = λ left. recording_call bytes text' left answer work WrongChange r }
-    go (Recorded size) r = record { cause = DrillLength; keeps = refl; unstopped = λ e. omega arith; one = wrong text l; other = wrong text' m }
+    go WrongLength r = record { cause = Err RecordingLength; keeps = refl; unstopped = λ e. omega arith; one = λ left. recording_call bytes text left answer work WrongLength r; other = λ left. recording_call bytes text' left answer work WrongLength r }
+    go WrongHead r = record { cause = Err RecordingHead; keeps = refl; unstopped = λ e. omega arith; one = λ left. recording_call bytes text left answer work WrongHead r; other = λ left. recording_call bytes text' left answer work WrongHead r }
+    go WrongChange r = record { cause = Err RecordingChange; keeps = refl; unstopped = λ e. omega arith; one = λ left. recording_call bytes text left answer work WrongChange r; other = λ left. recording_call bytes text' left answer work WrongChange r }
+    go (Recorded size) r = record { cause = Err DrillLength; keeps = refl; unstopped = λ e. omega arith; one = wrong text l; other = wrong text' m }
       where
-        wrong : (t : List ℕ) → 255 < length t → (left : ℕ) → CallWithin bytes t left answer work DrillLength
-        wrong t h left = drill_call bytes t left answer work (recording_call bytes t left answer work (Recorded size) r) DrillLength (omega arith) (refused_length (inr h))
+        wrong : (t : List ℕ) → 255 < length t → (left : ℕ) → CallWithin bytes t left answer work (Err DrillLength)
+        wrong t h left = drill_call bytes t left answer work (recording_call bytes t left answer work (Recorded size) r) (Err DrillLength) (omega arith) (refused_length (inr h))
 
 -- A call on the one is a call on the other.
 module _ {bytes text bytes' text' : List ℕ} (answer work answer' work' : List ℤ) {o : Outcome} (t : Together bytes text bytes' text' (length answer) (length work)) where

@@ -15,7 +15,7 @@ use Rattle.list.specs.Slots.{list_at}
 use Rattle.recording.specs.Reading.{ticks, wrong_head}
 use Rattle.runs.specs.Levels.{Shows}
 use Rattle.recording.proofs.Rounding.{tick_range}
-use Rattle.calls.specs.Outcome.{RecordingHead, DrillLength, DrillForm, DrillLetter, DrillRange, DrillDepth, Finished, NoCause, front_of, FindAs}
+use Rattle.calls.specs.Outcome.{Err, RecordingHead, DrillLength, DrillForm, DrillLetter, DrillRange, DrillDepth, listing, NoCause, front_of, FindAs}
 use Rattle.meaning.proofs.Evaluation.{evaluates_well}
 use Rattle.calls.proofs.Rounds.{most_rounds, comes_few}
 use Rattle.calls.proofs.Causes.{number_none}
@@ -23,14 +23,14 @@ use Rattle.calls.proofs.Outcomes.{recordings}
 use Rattle.finder.proofs.Answered.{words_length}
 use Rattle.finder.proofs.Calls.{front_call, call_exact}
 
-module _ {bytes text : List ℕ} {answer work answer' work' : List ℤ} {zones rounds : ℕ} (h : FindAs bytes text answer work (Finished zones rounds) answer' work') where
+module _ {bytes text : List ℕ} {answer work answer' work' : List ℤ} {zones rounds : ℕ} (h : FindAs bytes text answer work (listing zones rounds) answer' work') where
   none : NoCause bytes text (length answer) (length work)
   none = (number_none (λ _ _ c. c) h.outcome).0 refl
 
   some_few : (1 ≤ ticks bytes) × (ticks bytes ≤ 1_000_000)
   some_few = elim (dec_le 1 (ticks bytes)) [
-    | yes k ↦ (k, elim (dec_le (ticks bytes) 1_000_000) [ yes l ↦ l | no l ↦ absurd (none RecordingHead (Memᴰ.tail (Memᴰ.head refl)) (wrong_head (λ d. l (tick_range d.long d.short).1))) ])
-    | no k ↦ absurd (none RecordingHead (Memᴰ.tail (Memᴰ.head refl)) (wrong_head (λ d. k (tick_range d.long d.short).0)))
+    | yes k ↦ (k, elim (dec_le (ticks bytes) 1_000_000) [ yes l ↦ l | no l ↦ absurd (none (Err RecordingHead) (Memᴰ.tail (Memᴰ.head refl)) (wrong_head (λ d. l (tick_range d.long d.short).1))) ])
+    | no k ↦ absurd (none (Err RecordingHead) (Memᴰ.tail (Memᴰ.head refl)) (wrong_head (λ d. k (tick_range d.long d.short).0)))
   ]
 
   -- At most 128 zones ..
@@ -43,7 +43,7 @@ module _ {bytes text : List ℕ} {answer work answer' work' : List ℤ} {zones r
   -- .. and so few rounds, of all `*` together.
   pub few_rounds : rounds ≤ most_rounds
   few_rounds =
-      comes_few some_few.0 some_few.1 (none DrillDepth (append_right (recordings ++ (DrillLength ∷ DrillForm ∷ DrillLetter ∷ DrillRange ∷ [])) (Memᴰ.head refl)))
+      comes_few some_few.0 some_few.1 (none (Err DrillDepth) (append_right (recordings ++ (Err DrillLength ∷ Err DrillForm ∷ Err DrillLetter ∷ Err DrillRange ∷ [])) (Memᴰ.head refl)))
       h.buffers.finishes.means
 
   -- The front holds six words a zone, and every limit in it is within 1,000,000 of 0.

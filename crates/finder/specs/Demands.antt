@@ -15,7 +15,7 @@ use Rattle.expression.specs.Expression.{Expression, unary}
 use Rattle.expression.specs.Grammar.{Form, alternative}
 use Rattle.meaning.specs.Fits.{FitsOn, Fits}
 use Rattle.meaning.specs.Lists.{repeated, RoundsOf, Sum}
-use Rattle.calls.specs.Outcome.{Outcome, RecordingLength, RecordingHead, RecordingChange, DrillLength, DrillForm, DrillLetter, DrillRange, DrillDepth, Overflow, returned, Cause, First, NoCause, front_of, FindAs}
+use Rattle.calls.specs.Outcome.{Err, Outcome, RecordingLength, RecordingHead, RecordingChange, DrillLength, DrillForm, DrillLetter, DrillRange, DrillDepth, Overflow, returned, Cause, First, NoCause, front_of, FindAs}
 use Rattle.calls.specs.Within.{FirstWithin, NoCauseWithin, WithinAs}
 
 -- ==== Demand 1: the outcome and both buffers are the defined ones. "Each is given when its cause holds and no earlier one does, and never
@@ -71,7 +71,7 @@ pub record Total (bytes text : List ℕ) (total : ℕ) : Type 0 where
 -- the causes that recording and drill alone decide, 1 to 8 and 10; they ask nothing of the buffers
 abbrev pub inputs : List Outcome
 inputs =
-    RecordingLength ∷ RecordingHead ∷ RecordingChange ∷ DrillLength ∷ DrillForm ∷ DrillLetter ∷ DrillRange ∷ DrillDepth ∷ Overflow ∷ []
+    Err RecordingLength ∷ Err RecordingHead ∷ Err RecordingChange ∷ Err DrillLength ∷ Err DrillForm ∷ Err DrillLetter ∷ Err DrillRange ∷ Err DrillDepth ∷ Err Overflow ∷ []
 
 abbrev pub NoInputCause : (bytes text : List ℕ) → Type 0
 NoInputCause bytes text = (p : Outcome) → Memᴰ p inputs → ¬ Cause bytes text 0 0 p

@@ -8,7 +8,7 @@
 
 ghost use Rattle.finder.specs.Demands.{Demand1, Demand1Within, Demand2, Demand3};
 
-use outcome::Outcome;
+use outcome::{Outcome, Refusal};
 use recording::Reading;
 
 // The bytes of the largest recording, and the work words that a call needs.
@@ -34,9 +34,9 @@ pub fn find_within(
 {
     match recording::read(recording, LARGEST) {
         Reading::Recorded(size) => calls::find_in(recording, size, drill, left, answer, work),
-        Reading::WrongLength => Outcome::RecordingLength,
-        Reading::WrongHead => Outcome::RecordingHead,
-        Reading::WrongChange => Outcome::RecordingChange,
+        Reading::WrongLength => Err(Refusal::RecordingLength),
+        Reading::WrongHead => Err(Refusal::RecordingHead),
+        Reading::WrongChange => Err(Refusal::RecordingChange),
     }
 }
 

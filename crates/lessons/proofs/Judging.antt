@@ -6,8 +6,8 @@ use native.Mathlib.Omega.{arith}
 use Rattle.recording.specs.declared.Reading.TheVariants.{WrongLength, WrongHead, WrongChange, Recorded}
 use Rattle.recording.specs.declared.Dimensions.{Dimensions}
 use Rattle.recording.specs.Reading.{RecordingCause, ReadingAs}
-use Rattle.outcome.specs.declared.Outcome.{Outcome}
-use Rattle.outcome.specs.declared.Outcome.TheVariants.{RecordingLength, RecordingHead, RecordingChange, SheetForm}
+use Rattle.outcome.specs.Outcome.{Err, Outcome}
+use Rattle.outcome.specs.declared.Refusal.TheVariants.{RecordingLength, RecordingHead, RecordingChange, SheetForm}
 use Rattle.outcome.specs.Outcome.{returned}
 use Rattle.calls.specs.Causes.{First, NoCause}
 use Rattle.calls.specs.Outcome.{largest}
@@ -16,36 +16,36 @@ use Rattle.lines.specs.Lines.{Unlined}
 use Rattle.lessons.specs.Lessons.{LessonCause, recording_length, recording_head, recording_change, sheet_form, lesson_causes}
 
 module _ (bytes text : List ℕ) where
-  not_length : ¬ RecordingCause largest bytes 1 → ¬ LessonCause bytes text RecordingLength
+  not_length : ¬ RecordingCause largest bytes 1 → ¬ LessonCause bytes text (Err RecordingLength)
   not_length n (recording_length c) = n c
 
-  not_head : ¬ RecordingCause largest bytes 2 → ¬ LessonCause bytes text RecordingHead
+  not_head : ¬ RecordingCause largest bytes 2 → ¬ LessonCause bytes text (Err RecordingHead)
   not_head n (recording_head c) = n c
 
-  not_change : ¬ RecordingCause largest bytes 3 → ¬ LessonCause bytes text RecordingChange
+  not_change : ¬ RecordingCause largest bytes 3 → ¬ LessonCause bytes text (Err RecordingChange)
   not_change n (recording_change c) = n c
 
-  not_sheet : ¬ Unlined text → ¬ LessonCause bytes text SheetForm
+  not_sheet : ¬ Unlined text → ¬ LessonCause bytes text (Err SheetForm)
   not_sheet n (sheet_form c) = n c
 
   -- a recording that is refused
-  pub wrong_length : ReadingAs largest bytes WrongLength → First lesson_causes (LessonCause bytes text) RecordingLength
+  pub wrong_length : ReadingAs largest bytes WrongLength → First lesson_causes (LessonCause bytes text) (Err RecordingLength)
   wrong_length r = record { earlier = []; later = _; place = refl; holds = recording_length r.holds; none = none_of none }
 
-  pub wrong_head : ReadingAs largest bytes WrongHead → First lesson_causes (LessonCause bytes text) RecordingHead
+  pub wrong_head : ReadingAs largest bytes WrongHead → First lesson_causes (LessonCause bytes text) (Err RecordingHead)
   wrong_head r =
       record {
-        earlier = RecordingLength ∷ [];
+        earlier = Err RecordingLength ∷ [];
         later = _;
         place = refl;
         holds = recording_head r.holds;
         none = none_of (not_length (r.first 1 (omega arith)) also none);
       }
 
-  pub wrong_change : ReadingAs largest bytes WrongChange → First lesson_causes (LessonCause bytes text) RecordingChange
+  pub wrong_change : ReadingAs largest bytes WrongChange → First lesson_causes (LessonCause bytes text) (Err RecordingChange)
   wrong_change r =
       record {
-        earlier = RecordingLength ∷ RecordingHead ∷ [];
+        earlier = Err RecordingLength ∷ Err RecordingHead ∷ [];
         later = _;
         place = refl;
         holds = recording_change r.holds;
@@ -54,11 +54,11 @@ module _ (bytes text : List ℕ) where
 
   -- one that is read
   module _ {size : Dimensions} (r : ReadingAs largest bytes (Recorded size)) where
-    recordings : NoneOf (LessonCause bytes text) (RecordingLength ∷ RecordingHead ∷ RecordingChange ∷ [])
+    recordings : NoneOf (LessonCause bytes text) (Err RecordingLength ∷ Err RecordingHead ∷ Err RecordingChange ∷ [])
     recordings = not_length (r.0 1) also not_head (r.0 2) also not_change (r.0 3) also none
 
-    pub wrong_sheet : Unlined text → First lesson_causes (LessonCause bytes text) SheetForm
-    wrong_sheet u = record { earlier = RecordingLength ∷ RecordingHead ∷ RecordingChange ∷ []; later = _; place = refl; holds = sheet_form u; none = none_of recordings }
+    pub wrong_sheet : Unlined text → First lesson_causes (LessonCause bytes text) (Err SheetForm)
+    wrong_sheet u = record { earlier = Err RecordingLength ∷ Err RecordingHead ∷ Err RecordingChange ∷ []; later = _; place = refl; holds = sheet_form u; none = none_of recordings }
 
     pub none_wrong : ¬ Unlined text → NoCause lesson_causes (LessonCause bytes text)
     none_wrong n = none_of (not_length (r.0 1) also not_head (r.0 2) also not_change (r.0 3) also not_sheet n also none)

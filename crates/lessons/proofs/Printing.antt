@@ -11,7 +11,7 @@ use Rattle.text.specs.declared.Written.{Written}
 use Rattle.text.specs.declared.Written.TheVariants.{Bytes}
 use Rattle.text.specs.Buffer.{Appends}
 use Rattle.text.proofs.Buffer.{whole, fits_onto, fits_fitted}
-use Rattle.outcome.specs.declared.Outcome.{Outcome}
+use Rattle.outcome.specs.Outcome.{Outcome}
 use Rattle.outcome.specs.Outcome.{returned}
 use Rattle.calls.specs.Causes.{First, NoCause}
 use Rattle.sheet.specs.Sheet.{sheet, refused}

@@ -1,8 +1,8 @@
 -- Document 02, CR 4 and CR 8: what a lesson prints, and what both buffers hold after it.
 use Rattle.std.specs.Prelude.{◌≡◌, ◌↔◌, List, [], ◌∷◌, ℕ, ◌*◌, ◌<◌, ℤ, pos, replicate}
 use Rattle.recording.specs.Reading.{RecordingCause}
-use Rattle.outcome.specs.declared.Outcome.{Outcome}
-use Rattle.outcome.specs.declared.Outcome.TheVariants.{RecordingLength, RecordingHead, RecordingChange, SheetForm}
+use Rattle.outcome.specs.Outcome.{Err, Outcome}
+use Rattle.outcome.specs.declared.Refusal.TheVariants.{RecordingLength, RecordingHead, RecordingChange, SheetForm}
 use Rattle.outcome.specs.Outcome.{returned}
 use Rattle.calls.specs.Causes.{First, NoCause}
 use Rattle.calls.specs.Outcome.{largest, room}
@@ -19,13 +19,13 @@ longest_lesson = most_lines * longest_result
 
 -- "12, no line, more than eight, an empty line or a last line without newline, checked after 3 and before any drill"
 pub data LessonCause (bytes text : List ℕ) : Outcome → Type 0 where
-  recording_length : RecordingCause largest bytes 1 → LessonCause bytes text RecordingLength
-  recording_head : RecordingCause largest bytes 2 → LessonCause bytes text RecordingHead
-  recording_change : RecordingCause largest bytes 3 → LessonCause bytes text RecordingChange
-  sheet_form : Unlined text → LessonCause bytes text SheetForm
+  recording_length : RecordingCause largest bytes 1 → LessonCause bytes text (Err RecordingLength)
+  recording_head : RecordingCause largest bytes 2 → LessonCause bytes text (Err RecordingHead)
+  recording_change : RecordingCause largest bytes 3 → LessonCause bytes text (Err RecordingChange)
+  sheet_form : Unlined text → LessonCause bytes text (Err SheetForm)
 
 abbrev pub lesson_causes : List Outcome
-lesson_causes = RecordingLength ∷ RecordingHead ∷ RecordingChange ∷ SheetForm ∷ []
+lesson_causes = Err RecordingLength ∷ Err RecordingHead ∷ Err RecordingChange ∷ Err SheetForm ∷ []
 
 -- ---- the whole
 

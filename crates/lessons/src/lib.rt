@@ -12,7 +12,7 @@ ghost use Rattle.lessons.specs.Steps.{JudgedAs, size_of};
 
 use finder::LARGEST;
 use lines::Counted;
-use outcome::Outcome;
+use outcome::Refusal;
 use recording::Reading;
 use text::Written;
 
@@ -26,24 +26,17 @@ pub struct Lesson {
     pub size: usize,
 }
 
-// What is known before any drill: the refusal that is printed alone, or how many drills there are.
-#[derive(Clone, Copy)]
-enum Judged {
-    Refused(Outcome),
-    Drills(usize),
-}
-
-// The recording is judged before the sheet.
-fn judge(recording: &[u8], sheet: Counted) -> Judged
+// What is known before any drill: how many there are, or the refusal that is printed alone. The recording is judged before the sheet.
+fn judge(recording: &[u8], sheet: Counted) -> Result<usize, Refusal>
     ensures { (text store : List ℕ) → CountedAs text store sheet → JudgedAs recording.now text store result }
 {
     match recording::read(recording, LARGEST) {
-        Reading::WrongLength => Judged::Refused(Outcome::RecordingLength),
-        Reading::WrongHead => Judged::Refused(Outcome::RecordingHead),
-        Reading::WrongChange => Judged::Refused(Outcome::RecordingChange),
+        Reading::WrongLength => Err(Refusal::RecordingLength),
+        Reading::WrongHead => Err(Refusal::RecordingHead),
+        Reading::WrongChange => Err(Refusal::RecordingChange),
         Reading::Recorded(_) => match sheet {
-            Counted::Wrong => Judged::Refused(Outcome::SheetForm),
-            Counted::Lines(n) => Judged::Drills(n),
+            Counted::Wrong => Err(Refusal::SheetForm),
+            Counted::Lines(n) => Ok(n),
         },
     }
 }
@@ -74,15 +67,15 @@ pub fn hold(
     ensures rest { drop result.size out.new ≡ drop result.size out.old }
 {
     match judge(recording, sheet) {
-        Judged::Refused(outcome) => {
-            let told = outcome.returned();
-            let w = sheet::append(out, Written::Bytes(0), outcome, outcome::front(answer, 0));
+        Err(refusal) => {
+            let none = outcome::front(answer, 0);
+            let w = sheet::append(out, Written::Bytes(0), Err(refusal), none);
             Lesson {
-                number: told.number,
+                number: refusal.number(),
                 size: size_of(w),
             }
         }
-        Judged::Drills(n) => {
+        Ok(n) => {
             let w = results::results(recording, store, n, answer, work, out);
             Lesson {
                 number: 0,

@@ -46,7 +46,7 @@ use Rattle.parser.proofs.Parses.{right_length, accepted}
 use Rattle.meaning.specs.Fits.{Fits}
 use Rattle.meaning.proofs.Reported.{either_level}
 use Rattle.meaning.specs.Lists.{value, ended, Then.goes, run_zones, Letter, moment_zones, Moments, Evaluates}
-use Rattle.outcome.specs.declared.Outcome.TheVariants.{Finished}
+use Rattle.outcome.specs.Outcome.{listing}
 use Rattle.calls.specs.Outcome.{Comes, room, words, fronted, cleared, FindAs}
 use Rattle.marked.specs.Marked.{R, Row, marked, Gives, RowHolds}
 use Rattle.calls.proofs.Outcomes.{recordings, drills, Without, recording_call, drill_none, accepted_call}
@@ -77,7 +77,7 @@ gives : {text : List ℕ} {e : Expression} {L : List Zone} {r : ℕ} → descent
     → Evaluates (Shows R) 0 (ticks R) e (value L r)
     → (answer work : List ℤ) → length L * zone_words ≤ length answer → room ≤ length work → Gives text 0 r L answer work
 gives {text} {e} {L} {r} form pass evaluates answer work long roomy =
-    record { outcome = Finished (length L) r; returns = refl; call = call; only = λ o a w h. find_unique h call }
+    record { outcome = listing (length L) r; returns = refl; call = call; only = λ o a w h. find_unique h call }
   where
     taken : Accepted text (channels R) e
     taken = passed form pass
@@ -89,7 +89,7 @@ gives {text} {e} {L} {r} form pass evaluates answer work long roomy =
     none : Without R text r (length answer) (length work) (recordings ++ drills)
     none = drill_none R text r (length answer) (length work) (recording_call R text r (length answer) (length work) (Recorded _) example.read) taken
 
-    call : FindAs R text answer work (Finished (length L) r) (fronted (words L) answer) (cleared work)
+    call : FindAs R text answer work (listing (length L) r) (fronted (words L) answer) (cleared work)
     call =
         record {
           outcome = call_find R text r (length answer) (length work) (accepted_call R text r (length answer) (length work) none roomy comes (omega arith) long) (λ e. omega arith);

@@ -7,7 +7,7 @@ use Rattle.zone.specs.declared.Zone.{Zone}
 use Rattle.words.specs.Words.{zone_words}
 use Rattle.recording.specs.Reading.{tick}
 use Rattle.text.specs.Text.{ascii}
-use Rattle.outcome.specs.declared.Outcome.{Outcome}
+use Rattle.outcome.specs.Outcome.{Outcome}
 use Rattle.outcome.specs.Outcome.{returned}
 use Rattle.calls.specs.Outcome.{room, words, fronted, cleared, FindAs}
 

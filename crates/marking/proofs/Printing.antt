@@ -9,7 +9,7 @@ use lib.ListN.{length, take, drop, replicate, length-take}
 use Rattle.io.specs.Counts.{IsPrefixLen}
 use Rattle.zone.proofs.Laws.{ranged_more}
 use Rattle.outcome.specs.declared.Returned.{Returned}
-use Rattle.outcome.specs.declared.Outcome.{Outcome}
+use Rattle.outcome.specs.Outcome.{Outcome}
 use Rattle.outcome.specs.Outcome.{returned, front_of}
 use Rattle.outcome.proofs.Numbers.{zero_finished}
 use Rattle.calls.specs.Outcome.{room, FindAs}

@@ -2,7 +2,7 @@
 use Rattle.std.specs.Prelude.{◌≡◌, List, ℕ, ◌*◌, ℤ, pos, replicate}
 use Rattle.words.specs.Words.{zone_words}
 use Rattle.list.specs.Insert.{capacity}
-use Rattle.outcome.specs.declared.Outcome.{Outcome}
+use Rattle.outcome.specs.Outcome.{Outcome}
 use Rattle.outcome.specs.Outcome.{returned, front_of}
 use Rattle.calls.specs.Outcome.{room, FindAs}
 use Rattle.sheet.specs.Sheet.{sheet}

@@ -7,6 +7,7 @@ ghost use Rattle.marking.specs.Marking.{MarkedAs};
 
 use finder::WORK_WORDS;
 use list::SLOT_WORDS;
+use outcome::Returned;
 use sheet::Printed;
 
 // Writes the sheet to the front of `out`, and answers its length.
@@ -18,7 +19,7 @@ pub fn sheet_of(recording: &[u8], drill: &[u8], out: &mut [u8; sheet::LONGEST]) 
     let mut answer = [0i32; SLOT_WORDS];
     let mut work = [0i32; WORK_WORDS];
     let outcome = finder::find(recording, drill, &mut answer, &mut work);
-    let told = outcome.returned();
+    let told = Returned::from(outcome);
     match sheet::text(outcome, outcome::front(&answer, told.zones), out) {
         Printed::Bytes(size) => size,
         // Neither happens: the front is told its own zones, and no sheet is longer.

@@ -5,40 +5,47 @@ use mathlib.Core.List.{List, [], ◌∷◌}
 use Prim.Native.Nat.{ℕ, ◌-◌, ◌<◌}
 use native.Mathlib.Omega.{arith}
 use lib.ListN.{get_or}
-use Rattle.outcome.specs.Outcome.{Outcome, RecordingLength, RecordingHead, RecordingChange, DrillLength, DrillForm, DrillLetter, DrillRange, DrillDepth, WorkShort, Overflow, AnswerShort, SheetForm, RoundsSpent, Finished, returned}
+use Rattle.outcome.specs.Outcome.{Outcome, Ok, Err, Finished, Refusal, RecordingLength, RecordingHead, RecordingChange, DrillLength, DrillForm, DrillLetter, DrillRange, DrillDepth, WorkShort, Overflow, AnswerShort, SheetForm, RoundsSpent, number_of, returned, listing}
 
 -- the refusals, in the order of their numbers
-abbrev numbered : List Outcome
+abbrev numbered : List Refusal
 numbered =
     RecordingLength ∷ RecordingHead ∷ RecordingChange ∷ DrillLength ∷ DrillForm ∷ DrillLetter ∷ DrillRange ∷ DrillDepth ∷ WorkShort ∷ Overflow ∷ AnswerShort ∷ SheetForm ∷ RoundsSpent ∷ []
 
-abbrev refusal_at : ℕ → Outcome
-refusal_at n = get_or numbered (n - 1) (Finished 0 0)
+abbrev refusal_at : ℕ → Refusal
+refusal_at n = get_or numbered (n - 1) RecordingLength
 
--- an outcome is a finished list, whose number is 0, or stands at its number
-known : (o : Outcome) → (((returned o).number ≡ 0) × (o ≡ Finished (returned o).zones (returned o).rounds)) ⊎ ((0 < (returned o).number) × (o ≡ refusal_at (returned o).number))
-known RecordingLength = inr (omega arith, refl)
-known RecordingHead = inr (omega arith, refl)
-known RecordingChange = inr (omega arith, refl)
-known DrillLength = inr (omega arith, refl)
-known DrillForm = inr (omega arith, refl)
-known DrillLetter = inr (omega arith, refl)
-known DrillRange = inr (omega arith, refl)
-known DrillDepth = inr (omega arith, refl)
-known WorkShort = inr (omega arith, refl)
-known Overflow = inr (omega arith, refl)
-known AnswerShort = inr (omega arith, refl)
-known SheetForm = inr (omega arith, refl)
-known RoundsSpent = inr (omega arith, refl)
-known (Finished zones rounds) = inl (refl, refl)
+-- a refusal's number is one of 1 to 13, and it stands at that number ..
+record Numbered (r : Refusal) : Type 0 where
+  some : 0 < number_of r
+  few : number_of r < 14
+  place : r ≡ refusal_at (number_of r)
 
--- Number 0 is a finished list's alone ..
-pub zero_finished : (o : Outcome) → (returned o).number ≡ 0 → o ≡ Finished (returned o).zones (returned o).rounds
-zero_finished o e = ⊎_elim (λ k. k.1) (λ k. absurd (omega (arith, k.0))) (known o)
+known : (r : Refusal) → Numbered r
+known RecordingLength = record { some = omega arith; few = omega arith; place = refl }
+known RecordingHead = record { some = omega arith; few = omega arith; place = refl }
+known RecordingChange = record { some = omega arith; few = omega arith; place = refl }
+known DrillLength = record { some = omega arith; few = omega arith; place = refl }
+known DrillForm = record { some = omega arith; few = omega arith; place = refl }
+known DrillLetter = record { some = omega arith; few = omega arith; place = refl }
+known DrillRange = record { some = omega arith; few = omega arith; place = refl }
+known DrillDepth = record { some = omega arith; few = omega arith; place = refl }
+known WorkShort = record { some = omega arith; few = omega arith; place = refl }
+known Overflow = record { some = omega arith; few = omega arith; place = refl }
+known AnswerShort = record { some = omega arith; few = omega arith; place = refl }
+known SheetForm = record { some = omega arith; few = omega arith; place = refl }
+known RoundsSpent = record { some = omega arith; few = omega arith; place = refl }
+
+pub number_range : (r : Refusal) → (0 < number_of r) × (number_of r < 14)
+number_range r = let k = known r in (k.some, k.few)
+
+-- .. so number 0 is a finished list's alone ..
+pub zero_finished : (o : Outcome) → (returned o).number ≡ 0 → o ≡ listing (returned o).zones (returned o).rounds
+zero_finished (Ok f) e = refl
+zero_finished (Err r) e = absurd (omega (arith, (known r).some))
 
 -- .. and each refusal has its own.
-own_number : (o : Outcome) → 0 < (returned o).number → o ≡ refusal_at (returned o).number
-own_number o h = ⊎_elim (λ k. absurd (omega (arith, k.0))) (λ k. k.1) (known o)
-
 pub same_number : (o p : Outcome) → 0 < (returned p).number → (returned o).number ≡ (returned p).number → o ≡ p
-same_number o p h e = own_number o (omega arith) ∙ ap refusal_at e ∙ sym (own_number p h)
+same_number o (Ok f) h e = absurd (omega arith)
+same_number (Ok f) p h e = absurd (omega arith)
+same_number (Err r) (Err s) h e = ap (λ (q : Refusal). Err q) ((known r).place ∙ ap refusal_at e ∙ sym (known s).place)

@@ -1,9 +1,11 @@
 -- "Turned back": what each outcome returns and leaves; and the filled front of an answer.
-use Rattle.std.specs.Prelude.{cond, List, [], ℕ, ◌*◌, leb, ℤ, length, take}
+use Rattle.std.specs.Prelude.{cond, List, [], ℕ, ◌*◌, leb, ℤ, length, take, Result}
+pub use Rattle.std.specs.Prelude.{Ok, Err}
 use Rattle.words.specs.Words.{zone_words}
 pub use Rattle.outcome.specs.declared.Returned.{Returned}
-pub use Rattle.outcome.specs.declared.Outcome.{Outcome}
-pub use Rattle.outcome.specs.declared.Outcome.TheVariants.{
+pub use Rattle.outcome.specs.declared.Finished.{Finished}
+pub use Rattle.outcome.specs.declared.Refusal.{Refusal}
+pub use Rattle.outcome.specs.declared.Refusal.TheVariants.{
   RecordingLength,
   RecordingHead,
   RecordingChange,
@@ -17,31 +19,38 @@ pub use Rattle.outcome.specs.declared.Outcome.TheVariants.{
   AnswerShort,
   SheetForm,
   RoundsSpent,
-  Finished,
 }
+
+-- what a call comes to: a finished list, or a refusal
+abbrev pub Outcome : Type 0
+Outcome = Result Finished Refusal
+
+-- the finished list of so many zones and rounds
+abbrev pub listing : (zones rounds : ℕ) → Outcome
+listing zones rounds = Ok (record { zones = zones; rounds = rounds })
 
 -- ---- what is returned
 
--- "number, 0 zones, 0 rounds"
-abbrev pub refusal : ℕ → Returned
-refusal n = record { number = n; zones = 0; rounds = 0 }
+-- the table's numbers, and those of the requests after it
+abbrev pub number_of : Refusal → ℕ
+number_of RecordingLength = 1
+number_of RecordingHead = 2
+number_of RecordingChange = 3
+number_of DrillLength = 4
+number_of DrillForm = 5
+number_of DrillLetter = 6
+number_of DrillRange = 7
+number_of DrillDepth = 8
+number_of WorkShort = 9
+number_of Overflow = 10
+number_of AnswerShort = 11
+number_of SheetForm = 12
+number_of RoundsSpent = 13
 
--- the table's numbers, and those of the requests after it; an accepted call "returns 0, the number of zones and the total of rounds"
+-- "number, 0 zones, 0 rounds"; an accepted call "returns 0, the number of zones and the total of rounds"
 abbrev pub returned : Outcome → Returned
-returned RecordingLength = refusal 1
-returned RecordingHead = refusal 2
-returned RecordingChange = refusal 3
-returned DrillLength = refusal 4
-returned DrillForm = refusal 5
-returned DrillLetter = refusal 6
-returned DrillRange = refusal 7
-returned DrillDepth = refusal 8
-returned WorkShort = refusal 9
-returned Overflow = refusal 10
-returned AnswerShort = refusal 11
-returned SheetForm = refusal 12
-returned RoundsSpent = refusal 13
-returned (Finished zones rounds) = record { number = 0; zones = zones; rounds = rounds }
+returned (Err r) = record { number = number_of r; zones = 0; rounds = 0 }
+returned (Ok f) = record { number = 0; zones = f.zones; rounds = f.rounds }
 
 -- ---- what is left in the buffers
 
@@ -50,21 +59,21 @@ pub data Left : Type 0 where
   both answer-buffer delivered : Left
 
 abbrev pub leaves : Outcome → Left
-leaves RecordingLength = both
-leaves RecordingHead = both
-leaves RecordingChange = both
-leaves DrillLength = both
-leaves DrillForm = both
-leaves DrillLetter = both
-leaves DrillRange = both
-leaves DrillDepth = both
-leaves WorkShort = both
-leaves Overflow = answer-buffer
-leaves AnswerShort = answer-buffer
+leaves (Err RecordingLength) = both
+leaves (Err RecordingHead) = both
+leaves (Err RecordingChange) = both
+leaves (Err DrillLength) = both
+leaves (Err DrillForm) = both
+leaves (Err DrillLetter) = both
+leaves (Err DrillRange) = both
+leaves (Err DrillDepth) = both
+leaves (Err WorkShort) = both
+leaves (Err Overflow) = answer-buffer
+leaves (Err AnswerShort) = answer-buffer
 -- 13 is "returned and left as by 10"; "Any other new number .. leaves both buffers as they were"
-leaves SheetForm = both
-leaves RoundsSpent = answer-buffer
-leaves (Finished zones rounds) = delivered
+leaves (Err SheetForm) = both
+leaves (Err RoundsSpent) = answer-buffer
+leaves (Ok f) = delivered
 
 -- ---- the front of an answer
 

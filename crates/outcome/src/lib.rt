@@ -1,16 +1,24 @@
-// What a call of the finder comes to: a finished list of zones or one of the refusals. `Outcome::returned` is its number, zones and rounds, and
-// `front` gives back the words of the listed zones. Nothing is known here of recordings and drills: which outcome a call has is in `finder`.
+// What a call of the finder comes to: a finished list of zones or one of the refusals. `Returned::from` gives the number, zones and rounds of an
+// outcome, and `front` gives back the words of the listed zones. Nothing is known here of recordings and drills: which outcome a call has is in
+// `finder`.
 //
 // specs/Outcome.antt has what each outcome returns and leaves, and the front of an answer.
 #![tactic(auto)]
 
 ghost use Rattle.std.specs.Prelude.{◌≡◌};
-ghost use Rattle.outcome.specs.Outcome.{front_of, refusal, returned};
+ghost use Rattle.outcome.specs.Outcome.{front_of, number_of, returned};
 
-// What a call comes to: a finished list, or the refusal whose cause holds and no earlier one does. Each call has its own list of causes, and
-// gives no other.
+// A finished list: how many zones it has, and the total of rounds.
 #[derive(Clone, Copy)]
-pub enum Outcome {
+pub struct Finished {
+    pub zones: usize,
+    pub rounds: u64,
+}
+
+// The refusals, in the order of their numbers. A call gives the one whose cause holds and no earlier one does; each call has its own list of
+// causes, and gives no other.
+#[derive(Clone, Copy)]
+pub enum Refusal {
     RecordingLength,
     RecordingHead,
     RecordingChange,
@@ -24,8 +32,10 @@ pub enum Outcome {
     AnswerShort,
     SheetForm,
     RoundsSpent,
-    Finished { zones: usize, rounds: u64 },
 }
+
+// What a call comes to.
+pub type Outcome = Result<Finished, Refusal>;
 
 // What a call returns: its number (0 where it is accepted), the zones listed and the total of rounds.
 #[derive(Clone, Copy)]
@@ -35,40 +45,44 @@ pub struct Returned {
     pub rounds: u64,
 }
 
-// A refusal lists nothing and reports no rounds.
-fn refusal(number: u32) -> Returned
-    ensures { result ≡ refusal number }
-{
-    Returned {
-        number,
-        zones: 0,
-        rounds: 0,
+impl Refusal {
+    // The number of the refusal.
+    pub fn number(self) -> u32
+        ensures { result ≡ number_of self }
+    {
+        match self {
+            Refusal::RecordingLength => 1,
+            Refusal::RecordingHead => 2,
+            Refusal::RecordingChange => 3,
+            Refusal::DrillLength => 4,
+            Refusal::DrillForm => 5,
+            Refusal::DrillLetter => 6,
+            Refusal::DrillRange => 7,
+            Refusal::DrillDepth => 8,
+            Refusal::WorkShort => 9,
+            Refusal::Overflow => 10,
+            Refusal::AnswerShort => 11,
+            Refusal::SheetForm => 12,
+            Refusal::RoundsSpent => 13,
+        }
     }
 }
 
-impl Outcome {
-    // The number, zones and rounds of the outcome.
-    pub fn returned(self) -> Returned
-        ensures { result ≡ returned self }
-    {
-        match self {
-            Outcome::RecordingLength => refusal(1),
-            Outcome::RecordingHead => refusal(2),
-            Outcome::RecordingChange => refusal(3),
-            Outcome::DrillLength => refusal(4),
-            Outcome::DrillForm => refusal(5),
-            Outcome::DrillLetter => refusal(6),
-            Outcome::DrillRange => refusal(7),
-            Outcome::DrillDepth => refusal(8),
-            Outcome::WorkShort => refusal(9),
-            Outcome::Overflow => refusal(10),
-            Outcome::AnswerShort => refusal(11),
-            Outcome::SheetForm => refusal(12),
-            Outcome::RoundsSpent => refusal(13),
-            Outcome::Finished { zones, rounds } => Returned {
+// The number, zones and rounds of an outcome. A refusal lists nothing and reports no rounds.
+impl From<Outcome> for Returned {
+    ghost from_gives = { λ o r. r ≡ returned o };
+
+    fn from(outcome: Outcome) -> Returned {
+        match outcome {
+            Ok(list) => Returned {
                 number: 0,
-                zones,
-                rounds,
+                zones: list.zones,
+                rounds: list.rounds,
+            },
+            Err(refusal) => Returned {
+                number: refusal.number(),
+                zones: 0,
+                rounds: 0,
             },
         }
     }

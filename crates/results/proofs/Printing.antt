@@ -15,7 +15,7 @@ use Rattle.text.specs.Buffer.{Appends}
 use Rattle.text.specs.Decimal.{decimal}
 use Rattle.text.proofs.Buffer.{◌then◌, nothing}
 use Rattle.text.proofs.Digits.{places}
-use Rattle.outcome.specs.declared.Outcome.{Outcome}
+use Rattle.outcome.specs.Outcome.{Outcome}
 use Rattle.outcome.specs.Outcome.{returned, front_of}
 use Rattle.calls.specs.Within.{WithinAs}
 use Rattle.finder.proofs.Unstopped.{not_stopped}

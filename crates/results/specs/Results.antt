@@ -5,7 +5,7 @@ use Rattle.text.specs.declared.Written.{Written}
 use Rattle.text.specs.declared.Written.TheVariants.{Bytes}
 use Rattle.text.specs.Buffer.{Appends}
 use Rattle.text.specs.Decimal.{decimal}
-use Rattle.outcome.specs.declared.Outcome.{Outcome}
+use Rattle.outcome.specs.Outcome.{Outcome}
 use Rattle.outcome.specs.Outcome.{returned, front_of}
 use Rattle.calls.specs.Within.{WithinAs}
 use Rattle.sheet.specs.Sheet.{sheet}

@@ -9,6 +9,7 @@ ghost use Rattle.lines.specs.Taken.{store_bytes};
 ghost use Rattle.results.specs.Results.{AllPrinted};
 ghost use Rattle.results.specs.Steps.{ResultPrinted};
 
+use outcome::Returned;
 use text::Written;
 
 // The rounds that each drill has for itself.
@@ -32,7 +33,7 @@ fn result(
     let outcome = finder::find_within(recording, drill, left, answer, work);
     let numbered = text::decimal(out, w, number);
     let ended = text::put(out, numbered, b'\n');
-    let told = outcome.returned();
+    let told = Returned::from(outcome);
     sheet::append(out, ended, outcome, outcome::front(answer, told.zones))
 }
 

@@ -8,49 +8,22 @@ use lib.IntN.{ℤ}
 use lib.ListN.{length, take, drop}
 use lib.Seq.{take-append_seam, drop-append_seam}
 use borrow.Author.Tests.{le-leb, lt-leb}
+use Rattle.std.proofs.lemmas.Bool.{ne_eqb}
 use Rattle.text.specs.declared.Written.{Written}
 use Rattle.text.specs.declared.Written.TheVariants.{Bytes as bytes, TooSmall as small}
 use Rattle.text.specs.Buffer.{Appends}
 use Rattle.text.proofs.Buffer.{or_longer, fits_onto, fits_fitted, over_fitted, fitted_bytes, whole}
 use Rattle.outcome.specs.declared.Returned.{Returned}
-use Rattle.outcome.specs.declared.Outcome.{Outcome}
-use Rattle.outcome.specs.declared.Outcome.TheVariants.{
-  RecordingLength,
-  RecordingHead,
-  RecordingChange,
-  DrillLength,
-  DrillForm,
-  DrillLetter,
-  DrillRange,
-  DrillDepth,
-  WorkShort,
-  Overflow,
-  AnswerShort,
-  SheetForm,
-  RoundsSpent,
-  Finished,
-}
-use Rattle.outcome.specs.Outcome.{returned}
+use Rattle.outcome.specs.Outcome.{Outcome, Ok, Err, number_of, returned}
+use Rattle.outcome.proofs.Numbers.{number_range}
 use Rattle.sheet.specs.Sheet.{finished, refused, sheet}
 use Rattle.sheet.specs.Buffer.{Bytes, TooSmall, FrontShort, of_text, answer, left}
 
 -- what a refusal comes to
 pub refusal_sheet : (o : Outcome) → 0 < (returned o).number → (front : List ℤ) → (sheet (returned o) front ≡ refused (returned o).number) × ((returned o).zones ≡ 0) × ((returned o).number < 100)
 unfolding sheet
-refusal_sheet RecordingLength n front = (refl, refl, omega arith)
-refusal_sheet RecordingHead n front = (refl, refl, omega arith)
-refusal_sheet RecordingChange n front = (refl, refl, omega arith)
-refusal_sheet DrillLength n front = (refl, refl, omega arith)
-refusal_sheet DrillForm n front = (refl, refl, omega arith)
-refusal_sheet DrillLetter n front = (refl, refl, omega arith)
-refusal_sheet DrillRange n front = (refl, refl, omega arith)
-refusal_sheet DrillDepth n front = (refl, refl, omega arith)
-refusal_sheet WorkShort n front = (refl, refl, omega arith)
-refusal_sheet Overflow n front = (refl, refl, omega arith)
-refusal_sheet AnswerShort n front = (refl, refl, omega arith)
-refusal_sheet SheetForm n front = (refl, refl, omega arith)
-refusal_sheet RoundsSpent n front = (refl, refl, omega arith)
-refusal_sheet (Finished zones rounds) n front = absurd (omega arith)
+refusal_sheet (Ok f) n front = absurd (omega arith)
+refusal_sheet (Err r) n front = let k = number_range r in (rw (ne_eqb (number_of r) 0 (λ e. omega arith)), refl, omega arith)
 
 -- what a finished list comes to
 pub finished_sheet : (r : Returned) (front : List ℤ) → r.number ≡ 0 → sheet r front ≡ finished r.zones r.rounds front

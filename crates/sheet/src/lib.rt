@@ -12,7 +12,7 @@ ghost use Rattle.sheet.specs.Sheet.{bracket, range, line, lines, finished, refus
 ghost use Rattle.sheet.specs.Buffer.{of_text, answer, left};
 
 use limit::Limit;
-use outcome::Outcome;
+use outcome::{Outcome, Returned};
 use text::Written;
 use words::ZONE_WORDS;
 use zone::Zone;
@@ -129,7 +129,7 @@ pub fn append(out: &mut [u8], w: Written, outcome: Outcome, front: &[i32]) -> Wr
     requires { (returned outcome).zones * zone_words ≤ length front.now }
     ensures { Appends (sheet (returned outcome) front.now) out.old w out.new result }
 {
-    let told = outcome.returned();
+    let told = Returned::from(outcome);
     if 0 < told.number {
         return refused(out, w, told.number as u64);
     }
@@ -152,7 +152,7 @@ pub fn text(outcome: Outcome, front: &[i32], out: &mut [u8]) -> Printed
     ensures answer { result ≡ answer (returned outcome) front.now (length out.old) }
     ensures out { out.new ≡ left (returned outcome) front.now out.old }
 {
-    let told = outcome.returned();
+    let told = Returned::from(outcome);
     if front.len() / ZONE_WORDS < told.zones {
         return Printed::FrontShort;
     }

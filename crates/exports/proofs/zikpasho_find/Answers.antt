@@ -12,6 +12,6 @@ returns-then-counts-lt2 c = record {
 
 pub returns : goal.returns
 returns c = record {
-  call = λ h. record { outcome = c.find-outcome.result; number_is = ap (λ (r : Returned). r.number) c.returned-told.ensures; counts_are = two c.args.counts.now _ _ h ∙ ap (λ (r : Returned). r.zones ∷ r.rounds ∷ drop 2 c.args.counts.now) c.returned-told.ensures; demand1 = c.find-outcome.ensures.demand1; demand2 = c.find-outcome.ensures.demand2; demand3 = c.find-outcome.ensures.demand3 };
+  call = λ h. record { outcome = c.find-outcome.result; number_is = ap (λ (r : Returned). r.number) c.from-told.ensures; counts_are = two c.args.counts.now _ _ h ∙ ap (λ (r : Returned). r.zones ∷ r.rounds ∷ drop 2 c.args.counts.now) c.from-told.ensures; demand1 = c.find-outcome.ensures.demand1; demand2 = c.find-outcome.ensures.demand2; demand3 = c.find-outcome.ensures.demand3 };
   none = λ h. absurd (omega (arith, c.if-counts-lt2.false));
 }

@@ -12,6 +12,6 @@ returns-then-counts-lt2 c = record {
 
 pub returns : goal.returns
 returns c = record {
-  call = λ h. record { outcome = c.find_within-outcome.result; number_is = ap (λ (r : Returned). r.number) c.returned-got.ensures; counts_are = two c.args.counts.now _ _ h ∙ ap (λ (r : Returned). r.zones ∷ r.rounds ∷ drop 2 c.args.counts.now) c.returned-got.ensures; demand1 = c.find_within-outcome.ensures.demand1; demand2 = c.find_within-outcome.ensures.demand2; demand3 = c.find_within-outcome.ensures.demand3 };
+  call = λ h. record { outcome = c.find_within-outcome.result; number_is = ap (λ (r : Returned). r.number) c.from-got.ensures; counts_are = two c.args.counts.now _ _ h ∙ ap (λ (r : Returned). r.zones ∷ r.rounds ∷ drop 2 c.args.counts.now) c.from-got.ensures; demand1 = c.find_within-outcome.ensures.demand1; demand2 = c.find_within-outcome.ensures.demand2; demand3 = c.find_within-outcome.ensures.demand3 };
   none = λ h. absurd (omega (arith, c.if-counts-lt2.false));
 }

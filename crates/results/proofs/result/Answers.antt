@@ -5,9 +5,9 @@ use Rattle.results.proofs.result.Goals as goal
 pub append-requires : goal.append-requires
 append-requires c =
     let call = c.find_within-outcome.ensures.demand1.defined in
-    rw (c.front.ensures.words, c.returned-told.ensures) (result_roomy call).0
+    rw (c.front.ensures.words, c.from-told.ensures) (result_roomy call).0
 
 pub returns : goal.returns
 returns c =
     let call = c.find_within-outcome.ensures.demand1.defined in
-    result_printed call c.requires c.decimal-numbered.ensures c.put-ended.ensures (rw (c.front.ensures.words, c.returned-told.ensures) at c.append.ensures)
+    result_printed call c.requires c.decimal-numbered.ensures c.put-ended.ensures (rw (c.front.ensures.words, c.from-told.ensures) at c.append.ensures)

@@ -8,17 +8,17 @@ pub returns-then-front-told : goal.returns-then-front-told
 returns-then-front-told c =
     let r = returned c.args.outcome in
     let front = c.args.front.now in
-    let few : length front < r.zones * 6 = rw (sym c.returned-told.ensures) (omega arith) in
+    let few : length front < r.zones * 6 = rw (sym c.from-told.ensures) (omega arith) in
     let both = told_short r front {out = c.args.out.now} few in
     record { answer = both.0; out = both.1 }
 
 pub append-requires : goal.append-requires
-append-requires c = rw (sym c.returned-told.ensures) (omega (arith, c.if-front-told.false))
+append-requires c = rw (sym c.from-told.ensures) (omega (arith, c.if-front-told.false))
 
 pub returns : goal.returns
 returns c =
     let r = returned c.args.outcome in
     let front = c.args.front.now in
-    let enough : r.zones * 6 ≤ length front = rw (sym c.returned-told.ensures) (omega (arith, c.if-front-told.false)) in
+    let enough : r.zones * 6 ≤ length front = rw (sym c.from-told.ensures) (omega (arith, c.if-front-told.false)) in
     let both = told r front enough c.append.ensures in
     record { answer = c.of_text.ensures ∙ both.0; out = both.1 }
