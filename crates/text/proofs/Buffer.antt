@@ -97,7 +97,7 @@ unfolding behind
 nothing_behind (Some n) out = rw (nothing_onto (drop n out)) (take-append-drop n out)
 nothing_behind None out = refl
 
-nothing : {out : List ℕ} {w : Option ℕ} → Appends [] out w out w
+pub nothing : {out : List ℕ} {w : Option ℕ} → Appends [] out w out w
 unfolding written_after
 nothing {out} {w} = record { bytes = sym (nothing_behind w out); answer = refl }
 
@@ -148,7 +148,7 @@ reached_both [] t w room = refl
 reached_both (b ∷ s) t None room = reached_none t room
 reached_both (b ∷ s) t (Some n) room = reached_some (b ∷ s) t n room
 
-both : {s t a b c : List ℕ} {u v w : Option ℕ} → Appends s a u b v → Appends t b v c w → Appends (s ++ t) a u c w
+pub both : {s t a b c : List ℕ} {u v w : Option ℕ} → Appends s a u b v → Appends t b v c w → Appends (s ++ t) a u c w
 both {s} {t} {a} {u = u} f g =
     record {
       bytes = rw (g.bytes, f.answer, f.bytes) (behind_both s t u a);
