@@ -8,13 +8,12 @@ ghost use Rattle.std.specs.Prelude.{◌≡◌, List, ℕ, ◌≤◌, length, tak
 ghost use Rattle.io.specs.Counts.{IsPrefixLen};
 ghost use Rattle.lines.specs.Taken.{store_bytes, CountedAs};
 ghost use Rattle.lessons.specs.Lessons.{longest_lesson, Demand1Lesson};
-ghost use Rattle.lessons.specs.Steps.{JudgedAs, size_of};
+ghost use Rattle.lessons.specs.Steps.{JudgedAs};
 
 use finder::LARGEST;
-use lines::Counted;
 use outcome::Outcome;
 use recording::Reading;
-use text::Written;
+use text::Text;
 
 // Room for all that a lesson prints: eight results, each behind a line with its number.
 pub const LONGEST: usize = 98_320;
@@ -34,7 +33,7 @@ enum Judged {
 }
 
 // The recording is judged before the sheet.
-fn judge(recording: &[u8], sheet: Counted) -> Judged
+fn judge(recording: &[u8], sheet: Option<usize>) -> Judged
     ensures { (text store : List ℕ) → CountedAs text store sheet → JudgedAs recording.now text store result }
 {
     match recording::read(recording, LARGEST) {
@@ -42,19 +41,9 @@ fn judge(recording: &[u8], sheet: Counted) -> Judged
         Reading::WrongHead => Judged::Refused(Outcome::RecordingHead),
         Reading::WrongChange => Judged::Refused(Outcome::RecordingChange),
         Reading::Recorded(_) => match sheet {
-            Counted::Wrong => Judged::Refused(Outcome::SheetForm),
-            Counted::Lines(n) => Judged::Drills(n),
+            None => Judged::Refused(Outcome::SheetForm),
+            Some(n) => Judged::Drills(n),
         },
-    }
-}
-
-// How many bytes were printed.
-fn size_of(w: Written) -> usize
-    ensures { result ≡ size_of w }
-{
-    match w {
-        Written::Bytes(n) => n,
-        Written::TooSmall => 0, // never: there is room
     }
 }
 
@@ -62,7 +51,7 @@ fn size_of(w: Written) -> usize
 // they were.
 pub fn hold(
     recording: &[u8],
-    sheet: Counted,
+    sheet: Option<usize>,
     store: &[u8],
     answer: &mut [i32],
     work: &mut [i32],
@@ -73,20 +62,22 @@ pub fn hold(
     ensures count { IsPrefixLen result.size out.new }
     ensures rest { drop result.size out.new ≡ drop result.size out.old }
 {
+    // There is room for either text, so a length is always written.
     match judge(recording, sheet) {
         Judged::Refused(outcome) => {
             let told = outcome.returned();
-            let w = sheet::append(out, Written::Bytes(0), outcome, outcome::front(answer, 0));
+            let mut text = Text::begin(out);
+            sheet::append(&mut text, outcome, outcome::front(answer, 0));
             Lesson {
                 number: told.number,
-                size: size_of(w),
+                size: text.written.unwrap_or(0),
             }
         }
         Judged::Drills(n) => {
-            let w = results::results(recording, store, n, answer, work, out);
+            let written = results::results(recording, store, n, answer, work, out);
             Lesson {
                 number: 0,
-                size: size_of(w),
+                size: written.unwrap_or(0),
             }
         }
     }

@@ -182,5 +182,5 @@ unfolding behind written_after
 whole [] {out} a = (a.bytes, a.answer ∙ sym (fits_fitted 0 (length out) (omega arith)))
 whole (b ∷ s) {out} a = (a.bytes, a.answer ∙ ap (λ (k : ℕ). fitted k (length out)) (omega arith))
 
-pub from_begin : {s out : List ℕ} {t u : Text} → Begins out t → Puts s t u → Appends s out (Some 0) u.out.now u.written
-from_begin b p = rw (b.bytes, b.answer) at p.step
+pub from_begin : {s out out' : List ℕ} {t u : Text} → Begins out t → Puts s t u → out' ≡ u.out.now → Appends s out (Some 0) out' u.written
+from_begin b p e = rw e (rw (b.bytes, b.answer) at p.step)

@@ -1,5 +1,5 @@
 -- `hold` meets its contract: the refusal that is printed alone, or all results.
-use Rattle.std.proofs.Common.{ℕ, ap, List, [], arith}
+use Rattle.std.proofs.Common.{rules, ℕ, ap, List, [], arith}
 use Rattle.calls.specs.Causes.{First, NoCause}
 use Rattle.lessons.proofs.Judging.{lesson_refusal}
 use Rattle.lessons.proofs.Lessons.{promised_lesson}
@@ -7,17 +7,18 @@ use Rattle.lessons.proofs.Printing.{alone, alone_stands, all, all_stand}
 use Rattle.lessons.specs.Lessons.{LessonCause, lesson_causes}
 use Rattle.lines.specs.Taken.{LinesAs, CountedAs}
 use Rattle.outcome.specs.declared.Returned.{Returned}
+use Rattle.text.proofs.Buffer.{from_begin}
 use Rattle.sheet.proofs.Sheet.{refusal_sheet}
 use Rattle.lessons.proofs.hold.Goals as goal
 
-pub append-w-requires : goal.append-w-requires
-append-w-requires c =
+pub append-requires : goal.append-requires
+append-requires c =
     let some = c.requires.0 in
     let first = rw c.in-Refused.is at (c.judge.ensures some.0 _ some.1) in
     omega (arith, (refusal_sheet c.in-Refused.outcome (lesson_refusal first) []).1)
 
-pub results-w-requires : goal.results-w-requires
-results-w-requires c =
+pub results-written-requires : goal.results-written-requires
+results-written-requires c =
     let lines = (rw c.in-Drills.is at (c.judge.ensures c.requires.0.0 _ c.requires.0.1)).1 in
     (omega (arith, lines.lined.few, lines.count), c.requires.1)
 
@@ -26,11 +27,10 @@ returns-in-Refused c =
     let some = c.requires.0 in
     let first : (text : List ℕ) → CountedAs text c.args.store.now c.args.sheet → First lesson_causes (LessonCause c.args.recording.now text) c.in-Refused.outcome =
     λ text h. rw c.in-Refused.is at (c.judge.ensures text _ h) in
-    let stands = (alone_stands (first some.0 some.1) _ c.requires.2 c.append-w.ensures c.size_of.ensures).1 in
     record {
-      lesson = λ text h. promised_lesson (alone (first text h) _ c.requires.2 c.append-w.ensures c.size_of.ensures (ap (λ (r : Returned). r.number) c.returned-told.ensures));
-      count = stands.0;
-      rest = stands.1;
+      lesson = λ text h. promised_lesson (alone (first text h) _ c.requires.2 (from_begin c.begin-text.ensures.begins c.append.ensures (search rules)) c.unwrap_or.ensures (ap (λ (r : Returned). r.number) c.returned-told.ensures));
+      count = (alone_stands (first some.0 some.1) _ c.requires.2 (from_begin c.begin-text.ensures.begins c.append.ensures (search rules)) c.unwrap_or.ensures).1.0;
+      rest = (alone_stands (first some.0 some.1) _ c.requires.2 (from_begin c.begin-text.ensures.begins c.append.ensures (search rules)) c.unwrap_or.ensures).1.1;
     }
 
 pub returns-in-Drills : goal.returns-in-Drills
@@ -38,9 +38,9 @@ returns-in-Drills c =
     let some = c.requires.0 in
     let judged : (text : List ℕ) → CountedAs text c.args.store.now c.args.sheet → NoCause lesson_causes (LessonCause c.args.recording.now text) × LinesAs text c.args.store.now c.in-Drills.n =
     λ text h. rw c.in-Drills.is at (c.judge.ensures text _ h) in
-    let stands = (all_stand (judged some.0 some.1).1 c.requires.2 c.results-w.ensures c.size_of-in-Drills.ensures).1 in
+    let stands = (all_stand (judged some.0 some.1).1 c.requires.2 c.results-written.ensures c.unwrap_or-in-Drills.ensures).1 in
     record {
-      lesson = λ text h. promised_lesson (all (judged text h).1 c.requires.2 c.results-w.ensures c.size_of-in-Drills.ensures (judged text h).0);
+      lesson = λ text h. promised_lesson (all (judged text h).1 c.requires.2 c.results-written.ensures c.unwrap_or-in-Drills.ensures (judged text h).0);
       count = stands.0;
       rest = stands.1;
     }
