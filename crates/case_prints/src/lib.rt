@@ -3,12 +3,11 @@
 
 use finder::WORK_WORDS;
 use outcome::{Outcome, Returned};
-use sheet::Printed;
 use std::io;
 
 fn print_sheet(rt: &impl Print, outcome: Outcome, front: &[i32]) -> io::Result<()> {
     let mut text = [0u8; sheet::LONGEST];
-    let Printed::Bytes(n) = sheet::text(outcome, front, &mut text) else {
+    let Ok(n) = sheet::text(outcome, front, &mut text) else {
         return Ok(());
     };
     case_parts::print_part(rt, &text, n)

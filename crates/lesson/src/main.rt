@@ -7,7 +7,7 @@ ghost use Rattle.lines.specs.Taken.{store_bytes, Sums};
 ghost use Rattle.lesson.specs.Lesson.{Prints};
 
 use finder::WORK_WORDS;
-use lines::{Counted, Taken};
+use lines::Taken;
 use list::SLOT_WORDS;
 use std::rt::Files;
 use std::{fs, io};

@@ -1,7 +1,5 @@
 -- Private contracts alone cite this file: a lesson put together step by step.
 use Rattle.std.specs.Prelude.{Result, Ok, Err, List, ℕ}
-use Rattle.text.specs.declared.Written.{Written}
-use Rattle.text.specs.declared.Written.TheVariants.{Bytes, TooSmall}
 use Rattle.calls.specs.Causes.{First, NoCause}
 use Rattle.lines.specs.Taken.{LinesAs}
 use Rattle.outcome.specs.declared.Refusal.{Refusal}
@@ -11,8 +9,3 @@ use Rattle.lessons.specs.Lessons.{LessonCause, lesson_causes}
 abbrev pub JudgedAs : (bytes text store : List ℕ) → Result ℕ Refusal → Type 0
 JudgedAs bytes text store (Err r) = First lesson_causes (LessonCause bytes text) (Err r)
 JudgedAs bytes text store (Ok n) = NoCause lesson_causes (LessonCause bytes text) × LinesAs text store n
-
--- how many bytes a text has that was written
-abbrev pub size_of : Written → ℕ
-size_of (Bytes n) = n
-size_of TooSmall = 0

@@ -8,13 +8,12 @@ ghost use Rattle.std.specs.Prelude.{◌≡◌, List, ℕ, ◌≤◌, length, tak
 ghost use Rattle.io.specs.Counts.{IsPrefixLen};
 ghost use Rattle.lines.specs.Taken.{store_bytes, CountedAs};
 ghost use Rattle.lessons.specs.Lessons.{longest_lesson, Demand1Lesson};
-ghost use Rattle.lessons.specs.Steps.{JudgedAs, size_of};
+ghost use Rattle.lessons.specs.Steps.{JudgedAs};
 
 use finder::LARGEST;
-use lines::Counted;
 use outcome::Refusal;
 use recording::Reading;
-use text::Written;
+use text::Text;
 
 // Room for all that a lesson prints: eight results, each behind a line with its number.
 pub const LONGEST: usize = 98_320;
@@ -27,27 +26,14 @@ pub struct Lesson {
 }
 
 // What is known before any drill: how many there are, or the refusal that is printed alone. The recording is judged before the sheet.
-fn judge(recording: &[u8], sheet: Counted) -> Result<usize, Refusal>
+fn judge(recording: &[u8], sheet: Option<usize>) -> Result<usize, Refusal>
     ensures { (text store : List ℕ) → CountedAs text store sheet → JudgedAs recording.now text store result }
 {
     match recording::read(recording, LARGEST) {
         Reading::WrongLength => Err(Refusal::RecordingLength),
         Reading::WrongHead => Err(Refusal::RecordingHead),
         Reading::WrongChange => Err(Refusal::RecordingChange),
-        Reading::Recorded(_) => match sheet {
-            Counted::Wrong => Err(Refusal::SheetForm),
-            Counted::Lines(n) => Ok(n),
-        },
-    }
-}
-
-// How many bytes were printed.
-fn size_of(w: Written) -> usize
-    ensures { result ≡ size_of w }
-{
-    match w {
-        Written::Bytes(n) => n,
-        Written::TooSmall => 0, // never: there is room
+        Reading::Recorded(_) => sheet.ok_or(Refusal::SheetForm),
     }
 }
 
@@ -55,7 +41,7 @@ fn size_of(w: Written) -> usize
 // they were.
 pub fn hold(
     recording: &[u8],
-    sheet: Counted,
+    sheet: Option<usize>,
     store: &[u8],
     answer: &mut [i32],
     work: &mut [i32],
@@ -66,20 +52,21 @@ pub fn hold(
     ensures count { IsPrefixLen result.size out.new }
     ensures rest { drop result.size out.new ≡ drop result.size out.old }
 {
+    // There is room for either text, so a length is always written.
     match judge(recording, sheet) {
         Err(refusal) => {
-            let none = outcome::front(answer, 0);
-            let w = sheet::append(out, Written::Bytes(0), Err(refusal), none);
+            let mut text = Text::begin(out);
+            sheet::append(&mut text, Err(refusal), outcome::front(answer, 0));
             Lesson {
                 number: refusal.number(),
-                size: size_of(w),
+                size: text.written.unwrap_or(0),
             }
         }
         Ok(n) => {
-            let w = results::results(recording, store, n, answer, work, out);
+            let written = results::results(recording, store, n, answer, work, out);
             Lesson {
                 number: 0,
-                size: size_of(w),
+                size: written.unwrap_or(0),
             }
         }
     }

@@ -15,7 +15,7 @@ use Rattle.lines.specs.Lines.{most_lines, Unbroken, Lined, Unlined, Parted}
 use Rattle.lines.proofs.Parting.{parted_unique, parted_exists}
 
 -- nothing stands behind the newline of the last drill
-lined_parted : {text : List ℕ} {drills : List (List ℕ)} → Lined text drills → Parted text drills []
+pub lined_parted : {text : List ℕ} {drills : List (List ℕ)} → Lined text drills → Parted text drills []
 lined_parted h = record { whole = h.whole ∙ sym (append-nil _); plain = h.plain; last = not-nil }
 
 -- A text has one list of drills.

@@ -1,5 +1,5 @@
 -- The state and the store sum up the text so far, before its first byte and after each.
-use mathlib.Core.Path.{◌≡◌, refl, sym, ap}
+use mathlib.Core.Path.{◌≡◌, refl, sym, ap, subst}
 use mathlib.Core.Bool.{Bool, true, false, true≢false, ◌||◌, or-true}
 use mathlib.Core.Logic.{◌↔◌, ⊎_elim}
 use mathlib.Core.List.Memᴰ.{append_cases}
@@ -17,11 +17,11 @@ use borrow.Author.Tests.{eqb-true, eq-eqb}
 use lib.ListN.{length, length-append, get_or-append}
 use lib.Seq.{get_or-append_seam}
 use Rattle.lines.specs.declared.Taken.{Taken}
-use Rattle.lines.specs.Lines.{most_lines, newline, terminated}
+use Rattle.lines.specs.Lines.{most_lines, newline, terminated, Lined}
 use Rattle.lines.specs.Taken.{place_bytes, store_bytes, Held, Stored, Sums}
 use Rattle.lines.specs.Steps.{kept}
-use Rattle.lines.proofs.Parting.{parted_none, parted_newline, parted_byte}
-use Rattle.lines.proofs.Lined.{no_byte}
+use Rattle.lines.proofs.Parting.{parted_none, parted_newline, parted_byte, parted_unique}
+use Rattle.lines.proofs.Lined.{no_byte, lined_parted}
 use Rattle.lines.proofs.Store.{held_none, held_other, held_more}
 
 -- before the first byte
@@ -105,3 +105,12 @@ module _ {text store : List ℕ} {s : Taken} (size : store_bytes ≤ length stor
         stored = stays b;
         next = grows b;
       }
+
+-- what is known of a text that is a sheet
+pub of_sheet : {text store : List ℕ} {s : Taken} {drills : List (List ℕ)} → Sums text store s → Lined text drills → (0 < s.lines) × (s.lines ≤ most_lines) × (s.begun ≡ 0) × ¬ (s.empty ≡ true)
+of_sheet h l =
+    let ap_lines = ap length (parted_unique h.parted (lined_parted l)).0 in
+    let ap_rest = ap length (parted_unique h.parted (lined_parted l)).1 in
+    let some = l.some in
+    let few = l.few in
+    (omega arith, omega arith, omega arith, λ e. l.filled (subst (Memᴰ []) (parted_unique h.parted (lined_parted l)).0 (h.empty.0 e)))

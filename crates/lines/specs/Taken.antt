@@ -1,9 +1,7 @@
 -- What is known of a text that came in chunks: its lines in a lent store, and beside it their number, the length of the rest and whether one is empty.
-use Rattle.std.specs.Prelude.{◌≡◌, true, ◌↔◌, ℕ, ◌+◌, ◌*◌, ◌<◌, min, length, get_or}
+use Rattle.std.specs.Prelude.{◌≡◌, true, ◌↔◌, ℕ, ◌+◌, ◌*◌, ◌<◌, min, length, get_or, Option, Some, None}
 use mathlib.Core.List.{List, [], Memᴰ}
 use Rattle.lines.specs.declared.Taken.{Taken}
-use Rattle.lines.specs.declared.Counted.{Counted}
-use Rattle.lines.specs.declared.Counted.TheVariants.{Wrong, Lines}
 use Rattle.lines.specs.Lines.{most_lines, terminated, Lined, Unlined, Parted}
 
 -- the bytes of a place, which holds one line: one more than the 255 of the longest drill, so that what is held of a longer line is too long as well
@@ -43,6 +41,6 @@ pub record LinesAs (text store : List ℕ) (n : ℕ) : Type 0 where
   pub stored : Stored store drills
 
 -- what a text counts as at its end: no sheet, or a sheet of so many lines
-abbrev pub CountedAs : (text store : List ℕ) → Counted → Type 0
-CountedAs text store Wrong = Unlined text
-CountedAs text store (Lines n) = LinesAs text store n
+abbrev pub CountedAs : (text store : List ℕ) → Option ℕ → Type 0
+CountedAs text store None = Unlined text
+CountedAs text store (Some n) = LinesAs text store n

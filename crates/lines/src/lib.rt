@@ -15,6 +15,9 @@ pub const MOST_LINES: usize = 8;
 
 pub const PLACE: usize = 256;
 
+// A lent store may be longer, so it is a slice whose length each function asks for: a type of just so many bytes would ask
+// more of callers of `take_in`, `lines_of` and `line`. `Taken` stays beside it, since `count` is asked of no store and
+// `line` of no state.
 pub const STORE_BYTES: usize = MOST_LINES * PLACE;
 
 // What is known of a text beside the store: how many lines a newline ended, counted up to 9; how many bytes stand
@@ -24,13 +27,6 @@ pub struct Taken {
     pub lines: usize,
     pub begun: usize,
     pub empty: bool,
-}
-
-// What a text counts as at its end: no sheet, which is refused by 12, or a sheet of so many lines.
-#[derive(Drop)]
-pub enum Counted {
-    Wrong,
-    Lines(usize),
 }
 
 // No text yet, whatever the store holds.
@@ -44,22 +40,14 @@ pub fn begin() -> Taken
     }
 }
 
-// One more, up to the most that is counted.
-fn more(n: usize, most: usize) -> usize
-    ensures { result ≡ min most (n + 1) }
-{
-    if n < most { n + 1 } else { most }
-}
-
 // Puts byte i of line k into its place. A ninth line has no place, and a 257th byte no room.
+#[tactic(auto, unfolding(crate::specs::Steps::kept))]
 fn keep(store: &mut [u8], k: usize, i: usize, b: u8)
     requires { store_bytes ≤ length store.old }
     ensures { store.new ≡ kept store.old k i b }
 {
-    if k < MOST_LINES {
-        if i < PLACE {
-            store[k * PLACE + i] = b;
-        }
+    if k < MOST_LINES && i < PLACE {
+        store[k * PLACE + i] = b;
     }
 }
 
@@ -73,14 +61,14 @@ fn take_byte(state: Taken, store: &mut [u8], b: u8) -> Taken
     keep(store, state.lines, state.begun, b);
     if b == b'\n' {
         return Taken {
-            lines: more(state.lines, MOST_LINES + 1),
+            lines: state.lines.saturating_add(1).min(MOST_LINES + 1),
             begun: 0,
             empty: state.empty || state.begun == 0,
         };
     }
     Taken {
         lines: state.lines,
-        begun: more(state.begun, PLACE),
+        begun: state.begun.saturating_add(1).min(PLACE),
         empty: state.empty,
     }
 }
@@ -93,37 +81,26 @@ pub fn take_in(state: Taken, store: &mut [u8], chunk: &[u8]) -> Taken
     ensures beyond { drop store_bytes store.new ≡ drop store_bytes store.old }
 {
     let mut taken = state;
-    let mut i = 0;
-    while i < chunk.len() {
-        taken = take_byte(taken, store, chunk[i]);
-        i += 1;
+    for &b in chunk {
+        taken = take_byte(taken, store, b);
     }
     taken
 }
 
-// Judges the text at its end: "no line, more than eight, an empty line or a last line without newline", or a sheet. The
-// result is free where the state sums up no text.
-pub fn count(state: Taken) -> Counted
+// Judges the text at its end: "no line, more than eight, an empty line or a last line without newline", or a sheet of so
+// many lines. The result is free where the state sums up no text.
+pub fn count(state: Taken) -> Option<usize>
     ensures { (text store : List ℕ) → Sums text store state → CountedAs text store result }
 {
-    if state.lines == 0 {
-        return Counted::Wrong;
+    if state.empty || state.lines == 0 || MOST_LINES < state.lines || 0 < state.begun {
+        return None;
     }
-    if MOST_LINES < state.lines {
-        return Counted::Wrong;
-    }
-    if state.empty {
-        return Counted::Wrong;
-    }
-    if 0 < state.begun {
-        return Counted::Wrong;
-    }
-    Counted::Lines(state.lines)
+    Some(state.lines)
 }
 
 // Takes in and judges a whole text. The bytes behind the store's 2,048 are as they were; free are those behind the line
 // in each place and, where the text is no sheet, all 2,048.
-pub fn lines_of(text: &[u8], store: &mut [u8]) -> Counted
+pub fn lines_of(text: &[u8], store: &mut [u8]) -> Option<usize>
     requires { store_bytes ≤ length store.old }
     ensures counted { CountedAs text.now store.new result }
     ensures beyond { drop store_bytes store.new ≡ drop store_bytes store.old }
@@ -139,14 +116,8 @@ fn line_length(store: &[u8], k: usize) -> usize
     requires { (k < most_lines) × (store_bytes ≤ length store.now) }
     ensures { LengthAs store.now k result }
 {
-    let mut i = 0;
-    while i < PLACE {
-        if store[k * PLACE + i] == b'\n' {
-            return i;
-        }
-        i += 1;
-    }
-    PLACE
+    let place = &store[k * PLACE..(k + 1) * PLACE];
+    place.iter().position(|&b| b == b'\n').unwrap_or(PLACE)
 }
 
 // Line k, from 0, without its newline; of a line of more than 256 bytes the first 256. The result is free where the

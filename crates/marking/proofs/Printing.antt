@@ -15,8 +15,8 @@ use Rattle.outcome.proofs.Numbers.{zero_finished}
 use Rattle.calls.specs.Outcome.{room, FindAs}
 use Rattle.finder.proofs.Sizes.{few_zones, few_rounds, front_length, front_ranged}
 use Rattle.sheet.specs.Sheet.{sheet}
-use Rattle.sheet.specs.declared.Printed.{Printed}
-use Rattle.sheet.specs.declared.Printed.TheVariants.{Bytes, TooSmall, FrontShort}
+use Rattle.std.specs.Prelude.{Result, Ok, Err}
+use Rattle.sheet.specs.declared.Unprinted.{Unprinted}
 use Rattle.sheet.specs.Buffer.{answer, left}
 use Rattle.sheet.proofs.Sheet.{refusal_sheet, finished_sheet, fits, stands}
 use Rattle.sheet.proofs.Bounds.{Held, refused_length, finished_length}
@@ -51,12 +51,11 @@ module _ {bytes text : List ℕ} {o : Outcome} {answer₁ work₁ : List ℤ} (c
   front = listed o answer₁
 
   -- What is answered is the length of the whole text: that many bytes of the buffer are the sheet, and those behind it are as they were.
-  abbrev pub Prints : List ℕ → List ℕ → Printed → Type 0
-  Prints out out' (Bytes n) = MarkedAs bytes text (take n out') × (IsPrefixLen n out' × (drop n out' ≡ drop n out))
-  Prints out out' TooSmall = ⊥
-  Prints out out' FrontShort = ⊥
+  abbrev pub Prints : List ℕ → List ℕ → Result ℕ Unprinted → Type 0
+  Prints out out' (Ok n) = MarkedAs bytes text (take n out') × (IsPrefixLen n out' × (drop n out' ≡ drop n out))
+  Prints out out' (Err e) = ⊥
 
-  pub prints : {told : Returned} {words : List ℤ} (out out' : List ℕ) (w : Printed) → told ≡ returned o → words ≡ front_of answer₁ told.zones → longest ≤ length out
+  pub prints : {told : Returned} {words : List ℤ} (out out' : List ℕ) (w : Result ℕ Unprinted) → told ≡ returned o → words ≡ front_of answer₁ told.zones → longest ≤ length out
       → w ≡ answer (returned o) words (length out) → out' ≡ left (returned o) words out → Prints out out' w
   prints {told} {words} out out' w t f long a b =
       let g : words ≡ front = f ∙ ap (λ (r : Returned). front_of answer₁ r.zones) t in
@@ -65,14 +64,13 @@ module _ {bytes text : List ℕ} {o : Outcome} {answer₁ work₁ : List ℤ} (c
       same : out' ≡ left (returned o) front out
       same = b ∙ ap (λ (ws : List ℤ). left (returned o) ws out) (f ∙ ap (λ (r : Returned). front_of answer₁ r.zones) t)
 
-      all : answer (returned o) front (length out) ≡ Bytes (length (sheet (returned o) front))
+      all : answer (returned o) front (length out) ≡ Ok (length (sheet (returned o) front))
       all = let r = roomy o (λ _. call) in fits (returned o) front (length out) r.0 (omega (arith, r.1))
 
-      whole : (v : Printed) → v ≡ answer (returned o) front (length out) → Prints out out' v
-      whole (Bytes n) e =
+      whole : (v : Result ℕ Unprinted) → v ≡ answer (returned o) front (length out) → Prints out out' v
+      whole (Ok n) e =
           let p = stands (returned o) front out e in
           let s : take n out' ≡ sheet (returned o) front = ap (take n) same ∙ p.bytes in
           let l = ap length s in
           (record { outcome = o; answer = answer₁; work = work₁; call = call; sheet = s }, ((omega (arith, p.size, length-take n out'), omega (arith, p.size)), ap (drop n) same ∙ p.rest))
-      whole TooSmall e = let q = e ∙ all in let z : ◌≡◌ {A = ℕ} 0 1 = cc in absurd (omega arith)
-      whole FrontShort e = let q = e ∙ all in let z : ◌≡◌ {A = ℕ} 0 1 = cc in absurd (omega arith)
+      whole (Err u) e = let q = e ∙ all in cc

@@ -8,7 +8,6 @@ ghost use Rattle.marking.specs.Marking.{MarkedAs};
 use finder::WORK_WORDS;
 use list::SLOT_WORDS;
 use outcome::Returned;
-use sheet::Printed;
 
 // Writes the sheet to the front of `out`, and answers its length.
 pub fn sheet_of(recording: &[u8], drill: &[u8], out: &mut [u8; sheet::LONGEST]) -> usize
@@ -21,9 +20,8 @@ pub fn sheet_of(recording: &[u8], drill: &[u8], out: &mut [u8; sheet::LONGEST]) 
     let outcome = finder::find(recording, drill, &mut answer, &mut work);
     let told = Returned::from(outcome);
     match sheet::text(outcome, outcome::front(&answer, told.zones), out) {
-        Printed::Bytes(size) => size,
-        // Neither happens: the front is told its own zones, and no sheet is longer.
-        Printed::FrontShort => 0,
-        Printed::TooSmall => 0,
+        Ok(size) => size,
+        // Never: the front is told its own zones, and no sheet is longer.
+        Err(_) => 0,
     }
 }

@@ -9,11 +9,11 @@ use native.Mathlib.Numerals.{add-one}
 use lib.IntN.{ℤ}
 use lib.ListN.{length, take, get_or, length-append, length-take}
 use lib.Seq.{take-suc}
-use Rattle.text.specs.declared.Written.{Written}
-use Rattle.text.specs.declared.Written.TheVariants.{Bytes}
-use Rattle.text.specs.Buffer.{Appends}
+use Rattle.std.specs.Prelude.{Some}
+use Rattle.text.specs.declared.Text.{Text}
+use Rattle.text.specs.Buffer.{Appends, Begins, Puts}
 use Rattle.text.specs.Decimal.{decimal}
-use Rattle.text.proofs.Buffer.{◌then◌, nothing}
+use Rattle.text.proofs.Buffer.{◌then◌, nothing, both}
 use Rattle.text.proofs.Digits.{places}
 use Rattle.outcome.specs.Outcome.{Outcome}
 use Rattle.outcome.specs.Outcome.{returned, front_of}
@@ -36,14 +36,14 @@ module _ {bytes text : List ℕ} {told left : ℕ} {answer work answer' work' : 
   pub result_roomy : ((returned o).zones * 6 ≤ length (front_of answer' (returned o).zones)) × (length (sheet (returned o) (front_of answer' (returned o).zones)) ≤ 12_288)
   result_roomy = roomy o (λ e. not_stopped call (λ s. omega arith))
 
-  pub result_printed : {number : ℕ} {out out₁ out₂ out' : List ℕ} {w w₁ w₂ w' : Written} → number < 10 → Appends (decimal number) out w out₁ w₁ → Appends (newline ∷ []) out₁ w₁ out₂ w₂
-      → Appends (sheet (returned o) (front_of answer' (returned o).zones)) out₂ w₂ out' w'
-      → ResultPrinted bytes text number told answer work answer' work' out w out' w'
+  pub result_printed : {number : ℕ} {t u v w : Text} → number < 10 → Puts (decimal number) t u → Puts (newline ∷ []) u v
+      → Puts (sheet (returned o) (front_of answer' (returned o).zones)) v w
+      → ResultPrinted bytes text number told answer work answer' work' t w
   result_printed {number} few a b c =
       record {
         result = sheet (returned o) (front_of answer' (returned o).zones);
         means = record { outcome = o; left = left; call = call; prints = refl };
-        appends = (a then b) then c;
+        puts = (a then b) then c;
         short = omega (arith, length-append (number_line number) (sheet (returned o) (front_of answer' (returned o).zones)), length-append (decimal number) (newline ∷ []), places 0 number few, result_roomy.1);
       }
 
@@ -77,21 +77,22 @@ with_numbers_snoc k (s ∷ rs) r =
     ∙ ap (λ (t : List ℕ). number_line k ++ t) (append_assoc s (with_numbers (suc k) rs) _ ∙ ap (λ (t : List ℕ). s ++ t) (rw n e))
 
 -- no drill yet
-pub printed_none : {bytes : List ℕ} {answer work : List ℤ} {out : List ℕ} (drills : List (List ℕ)) → ResultsPrinted bytes (take 0 drills) answer work answer work out out (Bytes 0)
+pub printed_none : {bytes : List ℕ} {answer work : List ℤ} {out : List ℕ} {t : Text} (drills : List (List ℕ)) → Begins out t
+    → ResultsPrinted bytes (take 0 drills) answer work answer work t.out.now t.out.now t.written
 unfolding with_numbers
-printed_none drills = record { each = []; results = none; appends = nothing; short = omega arith }
+printed_none drills b = record { each = []; results = none; appends = rw b.answer nothing; short = omega arith }
 
 -- drill k
-pub printed_more : {bytes said : List ℕ} {answer work a w answer' work' : List ℤ} {out out₁ out' : List ℕ} {w₁ w' : Written} (drills : List (List ℕ)) (k : ℕ)
+pub printed_more : {bytes said : List ℕ} {answer work a w answer' work' : List ℤ} {out : List ℕ} {t u : Text} (drills : List (List ℕ)) (k : ℕ)
     → k < length drills → said ≡ take place_bytes (get_or drills k [])
-    → ResultsPrinted bytes (take k drills) answer work a w out out₁ w₁ → ResultPrinted bytes said (k + 1) purse a w answer' work' out₁ w₁ out' w'
-    → ResultsPrinted bytes (take (k + 1) drills) answer work answer' work' out out' w'
-printed_more {bytes} {answer = answer} {work} {answer' = answer'} {work'} {out} {out₁} {out'} {w₁} {w'} drills k some e before one =
-    subst (λ (ds : List (List ℕ)). ResultsPrinted bytes ds answer work answer' work' out out' w') (sym (take-suc drills k [] some) ∙ ap (λ (n : ℕ). take n drills) (sym (add-one k)))
+    → ResultsPrinted bytes (take k drills) answer work a w out t.out.now t.written → ResultPrinted bytes said (k + 1) purse a w answer' work' t u
+    → ResultsPrinted bytes (take (k + 1) drills) answer work answer' work' out u.out.now u.written
+printed_more {bytes} {answer = answer} {work} {answer' = answer'} {work'} {out} {t} {u} drills k some e before one =
+    subst (λ (ds : List (List ℕ)). ResultsPrinted bytes ds answer work answer' work' out u.out.now u.written) (sym (take-suc drills k [] some) ∙ ap (λ (n : ℕ). take n drills) (sym (add-one k)))
     (record {
       each = before.each ++ (one.result ∷ []);
       results = results_snoc before.results (drill_result e one.means);
-      appends = subst (λ (s : List ℕ). Appends s out (Bytes 0) out' w') text (before.appends then one.appends);
+      appends = subst (λ (s : List ℕ). Appends s out (Some 0) u.out.now u.written) text (both before.appends one.puts.step);
       short = rw (sym text) (omega (arith, before.short, one.short, length-append (with_numbers 1 before.each) (number_line (k + 1) ++ one.result), length-append (take k drills) (get_or drills k [] ∷ [])));
     })
   where

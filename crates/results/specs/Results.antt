@@ -1,8 +1,6 @@
 -- The results of drills that are run in order over one recording, and their text.
-use Rattle.std.specs.Prelude.{◌≡◌, ℕ, suc, ◌+◌, ◌*◌, ◌≤◌, ℤ, length}
+use Rattle.std.specs.Prelude.{◌≡◌, ℕ, suc, ◌+◌, ◌*◌, ◌≤◌, ℤ, length, Option, Some}
 use mathlib.Core.List.{List, [], ◌∷◌, ◌++◌, Memᴰ}
-use Rattle.text.specs.declared.Written.{Written}
-use Rattle.text.specs.declared.Written.TheVariants.{Bytes}
 use Rattle.text.specs.Buffer.{Appends}
 use Rattle.text.specs.Decimal.{decimal}
 use Rattle.outcome.specs.Outcome.{Outcome}
@@ -46,14 +44,14 @@ longest_result = 2 + 12_288
 -- ---- in a buffer
 
 -- the results of drills with their numbers, "from 1", written from the front of a buffer
-pub record ResultsPrinted (bytes : List ℕ) (drills : List (List ℕ)) (answer work answer' work' : List ℤ) (out out' : List ℕ) (w' : Written) : Type 0 where
+pub record ResultsPrinted (bytes : List ℕ) (drills : List (List ℕ)) (answer work answer' work' : List ℤ) (out out' : List ℕ) (w' : Option ℕ) : Type 0 where
   pub each : List (List ℕ)
   pub results : Results bytes answer work drills each answer' work'
-  pub appends : Appends (with_numbers 1 each) out (Bytes 0) out' w'
+  pub appends : Appends (with_numbers 1 each) out (Some 0) out' w'
   pub short : length (with_numbers 1 each) ≤ length drills * longest_result
 
 -- those of all n drills that the store holds
-abbrev pub AllPrinted : (bytes store : List ℕ) (n : ℕ) (answer work answer' work' : List ℤ) (out out' : List ℕ) → Written → Type 0
+abbrev pub AllPrinted : (bytes store : List ℕ) (n : ℕ) (answer work answer' work' : List ℤ) (out out' : List ℕ) → Option ℕ → Type 0
 AllPrinted bytes store n answer work answer' work' out out' w =
     (drills : List (List ℕ)) → length drills ≡ n → Stored store drills → ((d : List ℕ) → Memᴰ d drills → Unbroken d)
     → ResultsPrinted bytes drills answer work answer' work' out out' w

@@ -10,7 +10,7 @@ ghost use Rattle.results.specs.Results.{AllPrinted};
 ghost use Rattle.results.specs.Steps.{ResultPrinted};
 
 use outcome::Returned;
-use text::Written;
+use text::Text;
 
 // The rounds that each drill has for itself.
 const PURSE: u64 = 100_000;
@@ -24,17 +24,16 @@ fn result(
     left: &mut u64,
     answer: &mut [i32],
     work: &mut [i32],
-    out: &mut [u8],
-    w: Written,
-) -> Written
+    text: &mut Text,
+)
     requires { number < 10 }
-    ensures { ResultPrinted recording.now drill.now number left.old answer.old work.old answer.new work.new out.old w out.new result }
+    ensures { ResultPrinted recording.now drill.now number left.old answer.old work.old answer.new work.new text.old text.new }
 {
     let outcome = finder::find_within(recording, drill, left, answer, work);
-    let numbered = text::decimal(out, w, number);
-    let ended = text::put(out, numbered, b'\n');
+    text.decimal(number);
+    text.put(b'\n');
     let told = Returned::from(outcome);
-    sheet::append(out, ended, outcome, outcome::front(answer, told.zones))
+    sheet::append(text, outcome, outcome::front(answer, told.zones));
 }
 
 // The results of the n drills in the store with their numbers, from the front of `out`: each drill has all of its rounds, and finds both buffers as
@@ -46,27 +45,24 @@ pub fn results(
     answer: &mut [i32],
     work: &mut [i32],
     out: &mut [u8],
-) -> Written
+) -> Option<usize>
     requires { (n ≤ most_lines) × (store_bytes ≤ length store.now) }
     ensures { AllPrinted recording.now store.now n answer.old work.old answer.new work.new out.old out.new result }
 {
     let mut left = PURSE;
-    let mut w = Written::Bytes(0);
-    let mut k = 0;
-    while k < n {
+    let mut text = Text::begin(out);
+    for k in 0..n {
         let drill = lines::line(store, k);
-        w = result(
+        result(
             recording,
             drill,
             k as u64 + 1,
             &mut left,
             answer,
             work,
-            out,
-            w,
+            &mut text,
         );
         left = PURSE; // The next drill has its own: nothing is passed on.
-        k += 1;
     }
-    w
+    text.written
 }

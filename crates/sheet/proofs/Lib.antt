@@ -1,5 +1,4 @@
 -- Laws of sheets. `Bounds` says how long one is; the others are about its pieces, and what is answered of it.
 pub mod Sheet
 pub mod Bounds
-mod Limits
 mod Examples

@@ -11,11 +11,11 @@ returns-in-WrongHead c text store h = wrong_head _ text (rw c.in-WrongHead.is at
 pub returns-in-WrongChange : goal.returns-in-WrongChange
 returns-in-WrongChange c text store h = wrong_change _ text (rw c.in-WrongChange.is at c.read.ensures)
 
-pub returns-in-Wrong : goal.returns-in-Wrong
-returns-in-Wrong c text store h =
-    wrong_sheet _ text (rw c.in-Recorded.is at c.read.ensures) (rw c.in-Wrong.is at h)
+pub returns-in-None : goal.returns-in-None
+returns-in-None c text store h =
+    wrong_sheet _ text (rw c.in-Recorded.is at c.read.ensures) (rw c.in-None.is at h)
 
-pub returns-in-Lines : goal.returns-in-Lines
-returns-in-Lines c text store h =
-    let l = rw c.in-Lines.is at h in
+pub returns-in-Some : goal.returns-in-Some
+returns-in-Some c text store h =
+    let l = rw c.in-Some.is at h in
     (none_wrong _ text (rw c.in-Recorded.is at c.read.ensures) (λ u. u l.drills l.lined), l)

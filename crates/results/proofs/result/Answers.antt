@@ -10,4 +10,4 @@ append-requires c =
 pub returns : goal.returns
 returns c =
     let call = c.find_within-outcome.ensures.demand1.defined in
-    result_printed call c.requires c.decimal-numbered.ensures c.put-ended.ensures (rw (c.front.ensures.words, c.from-told.ensures) at c.append.ensures)
+    result_printed call c.requires c.decimal.ensures c.put.ensures (rw (c.front.ensures.words, c.from-told.ensures) at c.append.ensures)

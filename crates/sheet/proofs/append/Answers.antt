@@ -1,18 +1,17 @@
 -- `sheet::append`: a refusal or a finished list.
-use Rattle.std.proofs.Common.{arith}
+use Rattle.std.proofs.Common.{Ok, Err, refl, sym}
 use Rattle.outcome.specs.Outcome.{returned}
+use Rattle.outcome.proofs.Numbers.{number_range}
 use Rattle.sheet.proofs.Sheet.{refusal_sheet, finished_sheet}
 use Rattle.sheet.proofs.append.Goals as goal
 
-pub returns-then-told-gt0 : goal.returns-then-told-gt0
-returns-then-told-gt0 c =
-    let p = refusal_sheet c.args.outcome (rw c.from-told.ensures at c.if-told-gt0.true) c.args.front.now in
-    rw p.0 (rw c.from-told.ensures at c.refused.ensures)
-
 pub finished-requires : goal.finished-requires
-finished-requires c = rw c.from-told.ensures c.requires
+finished-requires c = rw c.in-Ok.is at c.requires
 
-pub returns : goal.returns
-returns c =
-    let left = rw c.from-told.ensures at c.if-told-gt0.false in
-    rw (finished_sheet (returned c.args.outcome) c.args.front.now (omega arith)) (rw c.from-told.ensures at c.finished.ensures)
+pub returns-in-Err : goal.returns-in-Err
+returns-in-Err c =
+    let r = c.in-Err.refusal in
+    rw (c.in-Err.is, (refusal_sheet (Err r) (number_range r).0 c.args.front.now).0, sym c.number.ensures) c.refused.ensures
+
+pub returns-in-Ok : goal.returns-in-Ok
+returns-in-Ok c = rw (c.in-Ok.is, finished_sheet (returned (Ok c.in-Ok.list)) c.args.front.now refl) c.finished.ensures

@@ -5,5 +5,4 @@ use Rattle.sheet.proofs.finished.Goals as goal
 
 pub returns : goal.returns
 unfolding finished
-returns c =
-    c.literal-w1.ensures then c.decimal-w2.ensures then c.literal-w3.ensures then c.decimal-w4.ensures then c.put-w5.ensures then c.lines.ensures
+returns c = c.literal.ensures then c.decimal.ensures then c.literal-2.ensures then c.decimal-2.ensures then c.put.ensures then c.lines.ensures

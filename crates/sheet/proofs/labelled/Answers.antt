@@ -3,4 +3,4 @@ use Rattle.text.proofs.Buffer.{◌then◌}
 use Rattle.sheet.proofs.labelled.Goals as goal
 
 pub returns : goal.returns
-returns c = c.literal-named.ensures then c.range.ensures
+returns c = c.literal.ensures then c.range.ensures

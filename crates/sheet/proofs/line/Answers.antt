@@ -5,5 +5,4 @@ use Rattle.sheet.proofs.line.Goals as goal
 
 pub returns : goal.returns
 unfolding line
-returns c =
-    c.labelled-w1.ensures then c.labelled-w2.ensures then c.labelled-w3.ensures then c.put.ensures
+returns c = c.labelled.ensures then c.labelled-2.ensures then c.labelled-3.ensures then c.put.ensures

@@ -5,4 +5,4 @@ use Rattle.sheet.proofs.refused.Goals as goal
 
 pub returns : goal.returns
 unfolding refused
-returns c = c.literal-w1.ensures then (c.decimal-w2.ensures then c.put.ensures)
+returns c = c.literal.ensures then c.decimal.ensures then c.put.ensures

@@ -1,7 +1,8 @@
 -- `sheet::text`: words that are missing, or a sheet from the front.
-use Rattle.std.proofs.Common.{sym, ◌∙◌, ◌*◌, ◌<◌, ◌≤◌, length, arith}
+use Rattle.std.proofs.Common.{refl, sym, rules, ◌∙◌, ◌*◌, ◌<◌, ◌≤◌, length, arith}
 use Rattle.outcome.specs.Outcome.{returned}
 use Rattle.sheet.proofs.Sheet.{told, told_short}
+use Rattle.text.proofs.Buffer.{from_begin}
 use Rattle.sheet.proofs.text.Goals as goal
 
 pub returns-then-front-told : goal.returns-then-front-told
@@ -20,5 +21,5 @@ returns c =
     let r = returned c.args.outcome in
     let front = c.args.front.now in
     let enough : r.zones * 6 ≤ length front = rw (sym c.from-told.ensures) (omega (arith, c.if-front-told.false)) in
-    let both = told r front enough c.append.ensures in
-    record { answer = c.of_text.ensures ∙ both.0; out = both.1 }
+    let both = told r front enough (from_begin c.begin-text.ensures.begins c.append.ensures refl) in
+    record { answer = c.ok_or.ensures.value ∙ both.0; out = search rules ∙ both.1 }

@@ -1,4 +1,4 @@
-use Rattle.text.proofs.+decimal.Given as goal
+use Rattle.text.proofs.Text.+decimal.Given as goal
 
 -- the number itself
 abbrev pub decreases-decimal : goal.decreases-decimal
