@@ -1,10 +1,8 @@
 -- What the readers of the grammar's levels, here and in `parser`, ask and promise each other. No contract of `parse` cites it.
-use Rattle.std.specs.Prelude.{◌≡◌, Bool, true, false, cond, ◌||◌, List, ℕ, suc, ◌+◌, ◌*◌, ◌<◌, ◌≤◌, max, eqb, ltb, length, drop}
+use Rattle.std.specs.Prelude.{Option, Some, None, ◌≡◌, Bool, true, false, cond, ◌||◌, List, ℕ, suc, ◌+◌, ◌*◌, ◌<◌, ◌≤◌, max, eqb, ltb, length, drop}
 use Rattle.expression.specs.declared.Range.{Range}
 use Rattle.expression.specs.declared.End.{End}
 use Rattle.expression.specs.declared.End.TheVariants.{Closed, Open}
-use Rattle.expression.specs.declared.Upper.{Upper}
-use Rattle.expression.specs.declared.Upper.TheVariants.{Endless, UpTo}
 use Rattle.trees.specs.declared.Tree.{Tree}
 use Rattle.leaves.specs.declared.Read.{Read}
 use Rattle.leaves.specs.declared.Read.TheVariants.{Part, Stop}
@@ -35,9 +33,9 @@ abbrev pub opened : End → Bool
 opened (Closed n) = false
 opened (Open n) = true
 
-abbrev pub is_wrong_upper : End → Upper → Bool
-is_wrong_upper lo Endless = false
-is_wrong_upper lo (UpTo hi) = ltb 1000000 (figure hi) || (ltb (figure hi) (figure lo) || cond (eqb (figure lo) (figure hi)) (opened lo || opened hi) false)
+abbrev pub is_wrong_upper : End → Option End → Bool
+is_wrong_upper lo None = false
+is_wrong_upper lo (Some hi) = ltb 1000000 (figure hi) || (ltb (figure hi) (figure lo) || cond (eqb (figure lo) (figure hi)) (opened lo || opened hi) false)
 
 abbrev pub is_wrong_range : Range → Bool
 is_wrong_range r = ltb 1000000 (figure r.lo) || is_wrong_upper r.lo r.hi

@@ -1,4 +1,5 @@
 -- The three sums that the readers keep, against the letters and the ranges of an expression.
+use Rattle.std.proofs.Common.{Option, Some, None}
 use mathlib.Core.Path.{◌≡◌, refl, sym, ap, ◌∙◌}
 use mathlib.Core.Bool.{Bool, true, false, cond, ◌||◌}
 use mathlib.Core.List.Memᴰ
@@ -11,8 +12,6 @@ use borrow.Author.Tests.{ltb-true, ltb-false, eqb-true, lt-ltb, le-ltb, eq-eqb}
 use Rattle.expression.specs.declared.Range.{Range}
 use Rattle.expression.specs.declared.End.{End}
 use Rattle.expression.specs.declared.End.TheVariants.{Closed, Open}
-use Rattle.expression.specs.declared.Upper.{Upper}
-use Rattle.expression.specs.declared.Upper.TheVariants.{Endless, UpTo}
 use Rattle.expression.specs.declared.Unary.{Unary}
 use Rattle.expression.specs.declared.Unary.TheVariants.{Star, Band, Absence}
 use Rattle.expression.specs.Expression.{Expression, epsilon, literal, join, unary, letters, ranges}
@@ -87,14 +86,14 @@ module _ (lo hi : End) where
       let p = or_none _ _ (rw (eq-eqb _ _ e) at h) in
       ⊎_elim (λ a. opened_none lo p.0 a) (λ a. opened_none hi p.1 a) o
 
-wrong_upper_some : (lo : End) (hi : Upper) → is_wrong_upper lo hi ≡ true → WrongUpper lo hi
-wrong_upper_some lo Endless e = absurd (false_true e)
-wrong_upper_some lo (UpTo hi) e =
+wrong_upper_some : (lo : End) (hi : Option End) → is_wrong_upper lo hi ≡ true → WrongUpper lo hi
+wrong_upper_some lo None e = absurd (false_true e)
+wrong_upper_some lo (Some hi) e =
     ⊎_elim (λ a. inl (ltb-true _ _ a)) (λ b. inr (⊎_elim (λ a. inl (ltb-true _ _ a)) (λ a. inr (equal_some lo hi a)) (or_some _ _ b))) (or_some _ _ e)
 
-wrong_upper_none : (lo : End) (hi : Upper) → is_wrong_upper lo hi ≡ false → WrongUpper lo hi → ⊥
-wrong_upper_none lo Endless e w = w
-wrong_upper_none lo (UpTo hi) e w =
+wrong_upper_none : (lo : End) (hi : Option End) → is_wrong_upper lo hi ≡ false → WrongUpper lo hi → ⊥
+wrong_upper_none lo None e w = w
+wrong_upper_none lo (Some hi) e w =
     let p = or_none _ _ e in
     let q = or_none _ _ p.1 in
     ⊎_elim (λ a. omega (arith, ltb-false 1000000 (figure hi) p.0))
@@ -180,9 +179,9 @@ opened_capped (Open n) = refl
 capped_wrong : (r : Range) → is_wrong_range (capped_range r) ≡ is_wrong_range r
 capped_wrong r = go r.lo r.hi
   where
-    go : (lo : End) (hi : Upper) → (ltb 1000000 (figure (capped_end lo)) || is_wrong_upper (capped_end lo) (capped_upper hi)) ≡ (ltb 1000000 (figure lo) || is_wrong_upper lo hi)
-    go lo Endless = rw (figure_capped lo, cap_over)
-    go lo (UpTo hi) = rw (figure_capped lo, figure_capped hi, opened_capped lo, opened_capped hi) (by (figure lo) (figure hi) (ltb 1000000 (figure lo)) (ltb 1000000 (figure hi)) refl refl)
+    go : (lo : End) (hi : Option End) → (ltb 1000000 (figure (capped_end lo)) || is_wrong_upper (capped_end lo) (capped_upper hi)) ≡ (ltb 1000000 (figure lo) || is_wrong_upper lo hi)
+    go lo None = rw (figure_capped lo, cap_over)
+    go lo (Some hi) = rw (figure_capped lo, figure_capped hi, opened_capped lo, opened_capped hi) (by (figure lo) (figure hi) (ltb 1000000 (figure lo)) (ltb 1000000 (figure hi)) refl refl)
       where
         by : (m n : ℕ) (a b : Bool) → ltb 1000000 m ≡ a → ltb 1000000 n ≡ b
             → (ltb 1000000 (cap m) || (ltb 1000000 (cap n) || (ltb (cap n) (cap m) || cond (eqb (cap m) (cap n)) (opened lo || opened hi) false)))
@@ -201,9 +200,9 @@ capped_end_lem : (e : End) → ltb 1000000 (figure e) ≡ false → capped_end e
 capped_end_lem (Closed n) h = ap Closed (cap_same n h)
 capped_end_lem (Open n) h = ap Open (cap_same n h)
 
-capped_upper_lem : (lo : End) (hi : Upper) → is_wrong_upper lo hi ≡ false → capped_upper hi ≡ hi
-capped_upper_lem lo Endless e = refl
-capped_upper_lem lo (UpTo hi) e = ap UpTo (capped_end_lem hi (or_none _ _ e).0)
+capped_upper_lem : (lo : End) (hi : Option End) → is_wrong_upper lo hi ≡ false → capped_upper hi ≡ hi
+capped_upper_lem lo None e = refl
+capped_upper_lem lo (Some hi) e = ap Some (capped_end_lem hi (or_none _ _ e).0)
 
 -- what is stored of an expression without a wrong range is the expression itself
 pub capped_same : (e : Expression) → wrong e ≡ false → capped e ≡ e

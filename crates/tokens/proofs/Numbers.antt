@@ -1,14 +1,13 @@
 -- Numbers and ranges, read from a place of the text.
+use Rattle.std.proofs.Common.{Option, Some, None}
 use mathlib.Core.Path.{◌≡◌, refl, sym, ap, ◌∙◌}
 use mathlib.Core.Bool.{true, false}
 use mathlib.Core.List.{List, [], ◌∷◌}
 use Prim.Native.Nat.{ℕ, ◌+◌, ◌*◌, ◌<◌, ◌≤◌}
 use native.Mathlib.Omega.{arith}
 use lib.ListN.{length, drop}
-use Rattle.expression.specs.declared.Upper.{Upper}
 use Rattle.expression.specs.declared.End.{End}
 use Rattle.expression.specs.declared.End.TheVariants.{Closed, Open}
-use Rattle.expression.specs.declared.Upper.TheVariants.{Endless, UpTo}
 use Rattle.tokens.specs.Tokens.{no, yes, branch, bind, starts, expect, ranged, digits, numeral, numbered, bound, upper_end, limits, cap, capped_end, capped_upper, capped_range, Got-at}
 use Rattle.tokens.specs.Readers.{Offset-at}
 use Rattle.tokens.proofs.Text.{rest_drop}
@@ -126,13 +125,13 @@ module _ (text : List ℕ) (at : ℕ) (sign : starts 60 (drop at text) ≡ true)
 -- RANGES
 
 -- the closing brace stands where hi may
-pub upper_endless : {text : List ℕ} {at : ℕ} → starts 125 (drop at text) ≡ true → at < length text → Got-at upper_end capped_upper text at (at + 1) Endless
+pub upper_endless : {text : List ℕ} {at : ℕ} → starts 125 (drop at text) ≡ true → at < length text → Got-at upper_end capped_upper text at (at + 1) None
 unfolding upper_end branch
-upper_endless {text} {at} e h = record { ahead = omega arith; inside = omega arith; x = Endless; is = refl; read = rw (e, rest_drop text at h) }
+upper_endless {text} {at} e h = record { ahead = omega arith; inside = omega arith; x = None; is = refl; read = rw (e, rest_drop text at h) }
 
 -- it does not
 module _ (text : List ℕ) (at : ℕ) (more : starts 125 (drop at text) ≡ false) where
-  upper_is : upper_end (drop at text) ≡ bind (bound (drop at text)) (λ e r. expect 125 (UpTo e) r)
+  upper_is : upper_end (drop at text) ≡ bind (bound (drop at text)) (λ e r. expect 125 (Some e) r)
   unfolding upper_end branch
   upper_is = rw more
 
@@ -146,14 +145,14 @@ module _ (text : List ℕ) (at : ℕ) (more : starts 125 (drop at text) ≡ fals
     unfolding bind expect branch
     upper_unclosed e = upper_is ∙ rw m.read (rw e)
 
-    pub upper_closed : starts 125 (drop b text) ≡ true → b < length text → Got-at upper_end capped_upper text at (b + 1) (UpTo w)
+    pub upper_closed : starts 125 (drop b text) ≡ true → b < length text → Got-at upper_end capped_upper text at (b + 1) (Some w)
     unfolding bind expect branch
     upper_closed e h =
         record {
           ahead = omega (arith, m.ahead);
           inside = omega arith;
-          x = UpTo m.x;
-          is = ap UpTo m.is;
+          x = Some m.x;
+          is = ap Some m.is;
           read = upper_is ∙ rw m.read (rw (e, rest_drop text b h));
         }
 
@@ -177,7 +176,7 @@ module _ {text : List ℕ} {at a : ℕ} {v : End} (n : Got-at bound capped_end t
     unfolding bind
     range_open e = range_on ∙ rw e
 
-    pub range_is : {b : ℕ} {u : Upper} → Got-at upper_end capped_upper text (a + 1) b u → Got-at limits capped_range text at b (record { lo = v; hi = u })
+    pub range_is : {b : ℕ} {u : Option End} → Got-at upper_end capped_upper text (a + 1) b u → Got-at limits capped_range text at b (record { lo = v; hi = u })
     unfolding bind
     range_is u =
         record {

@@ -1,11 +1,9 @@
 -- What the text of a drill begins with, as a function of the text: a byte, a number, a range, an operator after its operand, a
 -- letter with its sign; and what is said of a place of the text where one of them was read. How they make a drill is found in `descent`.
-use Rattle.std.specs.Prelude.{Bool, true, false, List, [], ◌∷◌, ◌≡◌, ℕ, ◌+◌, ◌-◌, ◌*◌, ◌<◌, ◌≤◌, min, eqb, ltb, length, drop}
+use Rattle.std.specs.Prelude.{Option, Some, None, Bool, true, false, List, [], ◌∷◌, ◌≡◌, ℕ, ◌+◌, ◌-◌, ◌*◌, ◌<◌, ◌≤◌, min, eqb, ltb, length, drop}
 use Rattle.expression.specs.declared.Range.{Range}
 use Rattle.expression.specs.declared.End.{End}
 use Rattle.expression.specs.declared.End.TheVariants.{Closed, Open}
-use Rattle.expression.specs.declared.Upper.{Upper}
-use Rattle.expression.specs.declared.Upper.TheVariants.{Endless, UpTo}
 use Rattle.expression.specs.declared.Sign.TheVariants.{High, Low, Rise, Fall}
 use Rattle.expression.specs.declared.Unary.{Unary}
 use Rattle.expression.specs.declared.Unary.TheVariants.{Star, Band, Absence}
@@ -67,8 +65,8 @@ unfoldable pub bound : List ℕ → Got End
 bound s = branch (starts 60 s) (λ _. numbered Open (rest s)) (λ _. numbered Closed s)
 
 -- the upper end of a range, with the closing brace
-unfoldable pub upper_end : List ℕ → Got Upper
-upper_end s = branch (starts 125 s) (λ _. yes Endless (rest s)) (λ _. bind (bound s) (λ e r. expect 125 (UpTo e) r))
+unfoldable pub upper_end : List ℕ → Got (Option End)
+upper_end s = branch (starts 125 s) (λ _. yes None (rest s)) (λ _. bind (bound s) (λ e r. expect 125 (Some e) r))
 
 -- what stands after an opening brace, with the closing one
 unfoldable pub limits : List ℕ → Got Range
@@ -97,9 +95,9 @@ abbrev pub capped_end : End → End
 capped_end (Closed n) = Closed (cap n)
 capped_end (Open n) = Open (cap n)
 
-abbrev pub capped_upper : Upper → Upper
-capped_upper Endless = Endless
-capped_upper (UpTo e) = UpTo (capped_end e)
+abbrev pub capped_upper : Option End → Option End
+capped_upper None = None
+capped_upper (Some e) = Some (capped_end e)
 
 abbrev pub capped_range : Range → Range
 capped_range r = record { lo = capped_end r.lo; hi = capped_upper r.hi }
