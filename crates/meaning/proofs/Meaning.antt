@@ -13,6 +13,7 @@ use Rattle.runs.specs.declared.Level.{Level}
 use Rattle.runs.specs.Levels.{Shows}
 use Rattle.runs.specs.Events.{Event}
 use Rattle.runs.proofs.Events.{event_inside}
+use Rattle.expression.specs.declared.End.{End}
 use Rattle.expression.specs.declared.Sign.TheVariants.{High, Low, Rise, Fall}
 use Rattle.expression.specs.declared.Join.TheVariants.{Union, Intersection, Concatenation}
 use Rattle.expression.specs.declared.Unary.TheVariants.{Star, Band, Absence}

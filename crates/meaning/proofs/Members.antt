@@ -32,6 +32,7 @@ use Rattle.runs.specs.declared.Run.{Run}
 use Rattle.runs.specs.Events.{Events}
 use Rattle.runs.proofs.Runs.{runs_unique, Complete, Held}
 use Rattle.expression.specs.declared.Range.{Range}
+use Rattle.expression.specs.declared.End.{End}
 use Rattle.expression.specs.declared.Sign.TheVariants.{High, Low, Rise, Fall}
 use Rattle.expression.specs.declared.Join.TheVariants.{Union, Intersection, Concatenation}
 use Rattle.expression.specs.declared.Unary.TheVariants.{Star, Band, Absence}

@@ -18,6 +18,7 @@ use Rattle.runs.specs.declared.Run.{Run}
 use Rattle.runs.specs.Runs.{Runs}
 use Rattle.runs.specs.Events.{Events}
 use Rattle.expression.specs.declared.Range.{Range}
+use Rattle.expression.specs.declared.End.{End}
 use Rattle.expression.specs.declared.Sign.TheVariants as sign
 use Rattle.expression.specs.declared.Sign.TheVariants.{Rise, Fall}
 use Rattle.expression.specs.declared.Join.{Join}

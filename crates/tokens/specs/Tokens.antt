@@ -9,10 +9,6 @@ use Rattle.expression.specs.declared.Unary.{Unary}
 use Rattle.expression.specs.declared.Unary.TheVariants.{Star, Band, Absence}
 use Rattle.expression.specs.Expression.{Expression, literal}
 use Rattle.expression.specs.declared.Sign.{Sign}
-use Rattle.tokens.specs.declared.Postfix.{Postfix}
-use Rattle.tokens.specs.declared.Postfix.TheVariants.{Operator, NoOperator}
-use Rattle.tokens.specs.declared.Lettered.{Lettered}
-use Rattle.tokens.specs.declared.Lettered.TheVariants.{Letter, NoLetter}
 
 -- nothing, or a value and the text after it
 pub data Got (A : Type 0) : Type 0 where
@@ -115,10 +111,14 @@ pub record Got-at {A : Type 0} (reads : List ℕ → Got A) (keeps : A → A) (t
   pub is : v ≡ keeps x
   pub read : reads (drop at text) ≡ yes x (drop a text)
 
+-- what a reader answers: where what it read ends and what is kept of it, or that there is nothing
+abbrev pub GotAs : {A : Type 0} → (List ℕ → Got A) → (A → A) → List ℕ → ℕ → Option (ℕ × A) → Type 0
+GotAs reads keeps text at (Some got) = Got-at reads keeps text at got.0 got.1
+GotAs reads keeps text at None = reads (drop at text) ≡ no
+
 -- an operator after its operand: where it ends and which it is, or that there is none
-abbrev pub PostfixAs : List ℕ → ℕ → Postfix → Type 0
-PostfixAs text at (Operator a u) = Got-at postfix capped_unary text at a u
-PostfixAs text at NoOperator = postfix (drop at text) ≡ no
+abbrev pub PostfixAs : List ℕ → ℕ → Option (ℕ × Unary) → Type 0
+PostfixAs text at r = GotAs postfix capped_unary text at r
 
 -- a letter with its sign, from `at` up to a
 pub record Letter-at (text : List ℕ) (at a : ℕ) (s : Sign) (k : ℕ) : Type 0 where
@@ -127,9 +127,9 @@ pub record Letter-at (text : List ℕ) (at a : ℕ) (s : Sign) (k : ℕ) : Type 
   pub small : k < 16
   pub read : lettered (drop at text) ≡ yes (literal s k) (drop a text)
 
-abbrev pub LetterAs : List ℕ → ℕ → Lettered → Type 0
-LetterAs text at (Letter a s k) = Letter-at text at a s k
-LetterAs text at NoLetter = lettered (drop at text) ≡ no
+abbrev pub LetterAs : List ℕ → ℕ → Option (ℕ × Sign × ℕ) → Type 0
+LetterAs text at (Some got) = Letter-at text at got.0 got.1 got.2
+LetterAs text at None = lettered (drop at text) ≡ no
 
 -- whether the byte c stands at `at`
 pub record Seen (c : ℕ) (text : List ℕ) (at : ℕ) (r : Bool) : Type 0 where
