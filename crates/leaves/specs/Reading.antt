@@ -4,8 +4,6 @@ use Rattle.expression.specs.declared.Range.{Range}
 use Rattle.expression.specs.declared.End.{End}
 use Rattle.expression.specs.declared.End.TheVariants.{Closed, Open}
 use Rattle.trees.specs.declared.Tree.{Tree}
-use Rattle.leaves.specs.declared.Read.{Read}
-use Rattle.leaves.specs.declared.Read.TheVariants.{Part, Stop}
 use Rattle.expression.specs.declared.Unary.{Unary}
 use Rattle.expression.specs.declared.Unary.TheVariants.{Star, Band, Absence}
 use Rattle.expression.specs.Expression.{Expression, epsilon, literal, join, unary, depth}
@@ -75,6 +73,6 @@ pub record Reached (k : Rank) (rest : Expression → List ℕ → Got Expression
   pub read : descent k (drop at text) ≡ rest e (drop tree.at text)
 
 -- what the reader of a level makes of the text from `at` on, with `used` nodes stored before
-abbrev pub ReadAs : Rank → List ℕ → ℕ → ℕ → List ℕ → List ℕ → Read → Type 0
-ReadAs k text at used before after (Part tree) = Reached k yes text at used before after tree
-ReadAs k text at used before after Stop = descent k (drop at text) ≡ no
+abbrev pub ReadAs : Rank → List ℕ → ℕ → ℕ → List ℕ → List ℕ → Option Tree → Type 0
+ReadAs k text at used before after (Some tree) = Reached k yes text at used before after tree
+ReadAs k text at used before after None = descent k (drop at text) ≡ no

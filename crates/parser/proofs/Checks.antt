@@ -18,14 +18,13 @@ use Rattle.expression.specs.Expression.{Expression, epsilon, literal, join, unar
 use Rattle.expression.specs.Refusal.{figure, Opened, WrongUpper, Wrong}
 use Rattle.tokens.specs.Tokens.{cap, capped_end, capped_upper, capped_range, capped_unary}
 use Rattle.leaves.specs.Reading.{capped, width, opened, is_wrong_upper, is_wrong_range, is_wrong_unary, wrong}
-use Rattle.expression.proofs.Ranges.{false_true}
 
 or_some : (a b : Bool) → (a || b) ≡ true → (a ≡ true) ⊎ (b ≡ true)
 or_some true b e = inl refl
 or_some false b e = inr e
 
 or_none : (a b : Bool) → (a || b) ≡ false → (a ≡ false) × (b ≡ false)
-or_none true b e = absurd (false_true (sym e))
+or_none true b e = cc
 or_none false b e = (refl, e)
 
 -- LETTERS
@@ -65,12 +64,12 @@ letter_beyond (unary u e) c h = letter_beyond e c h
 -- RANGES
 
 opened_some : (e : End) → opened e ≡ true → Opened e
-opened_some (Closed n) h = absurd (false_true h)
+opened_some (Closed n) h = cc
 opened_some (Open n) h = tt
 
 opened_none : (e : End) → opened e ≡ false → Opened e → ⊥
 opened_none (Closed n) h o = o
-opened_none (Open n) h o = false_true (sym h)
+opened_none (Open n) h o = cc
 
 -- equal ends, with a `<` on either
 module _ (lo hi : End) where
@@ -79,7 +78,7 @@ module _ (lo hi : End) where
     where
       go : (b : Bool) → eqb (figure lo) (figure hi) ≡ b → cond b (opened lo || opened hi) false ≡ true → (figure lo ≡ figure hi) × (Opened lo ⊎ Opened hi)
       go true e h = (eqb-true _ _ e, ⊎_elim (λ o. inl (opened_some lo o)) (λ o. inr (opened_some hi o)) (or_some _ _ h))
-      go false e h = absurd (false_true h)
+      go false e h = cc
 
   equal_none : cond (eqb (figure lo) (figure hi)) (opened lo || opened hi) false ≡ false → figure lo ≡ figure hi → Opened lo ⊎ Opened hi → ⊥
   equal_none h e o =
@@ -87,7 +86,7 @@ module _ (lo hi : End) where
       ⊎_elim (λ a. opened_none lo p.0 a) (λ a. opened_none hi p.1 a) o
 
 wrong_upper_some : (lo : End) (hi : Option End) → is_wrong_upper lo hi ≡ true → WrongUpper lo hi
-wrong_upper_some lo None e = absurd (false_true e)
+wrong_upper_some lo None e = cc
 wrong_upper_some lo (Some hi) e =
     ⊎_elim (λ a. inl (ltb-true _ _ a)) (λ b. inr (⊎_elim (λ a. inl (ltb-true _ _ a)) (λ a. inr (equal_some lo hi a)) (or_some _ _ b))) (or_some _ _ e)
 
@@ -119,18 +118,18 @@ wrong_is r b h = go b (is_wrong_range r) h refl
     go false false h e = refl
 
 -- some range of the list is wrong
-abbrev Some : List Range → Type 0
-Some rs = (r : Range) × Memᴰ r rs × Wrong r
+abbrev SomeWrong : List Range → Type 0
+SomeWrong rs = (r : Range) × Memᴰ r rs × Wrong r
 
-join_some : (e f : Expression) → (wrong e ≡ true → Some (ranges e)) → (wrong f ≡ true → Some (ranges f)) → (wrong e || wrong f) ≡ true → Some (ranges e ++ ranges f)
+join_some : (e f : Expression) → (wrong e ≡ true → SomeWrong (ranges e)) → (wrong f ≡ true → SomeWrong (ranges f)) → (wrong e || wrong f) ≡ true → SomeWrong (ranges e ++ ranges f)
 join_some e f p q h =
     ⊎_elim (λ w. let a = p w in (a.0, Memᴰ.append_left (ranges f) a.1, a.2)) (λ w. let a = q w in (a.0, Memᴰ.append_right (ranges e) a.1, a.2))
     (or_some _ _ h)
 
-pub range_wrong : (e : Expression) → wrong e ≡ true → Some (ranges e)
+pub range_wrong : (e : Expression) → wrong e ≡ true → SomeWrong (ranges e)
 unfolding ranges wrong
-range_wrong epsilon h = absurd (false_true h)
-range_wrong (literal s k) h = absurd (false_true h)
+range_wrong epsilon h = cc
+range_wrong (literal s k) h = cc
 range_wrong (join j e f) h = join_some e f (λ a. range_wrong e a) (λ a. range_wrong f a) h
 range_wrong (unary Star e) h = range_wrong e h
 range_wrong (unary (Band r) e) h =
