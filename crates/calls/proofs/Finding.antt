@@ -1,5 +1,5 @@
 -- From what the steps of a call answer to the whole call.
-use mathlib.Core.Path.{◌≡◌, refl, sym, ap, subst, ◌∙◌}
+use mathlib.Core.Path.{◌≡◌, refl, ap, subst}
 use mathlib.Core.List.{List, ◌++◌}
 use Prim.Native.Nat.{ℕ}
 use native.Mathlib.Omega.{arith}
@@ -8,12 +8,13 @@ use lib.ListN.{length}
 use Rattle.recording.specs.Reading.{channels, IsRecording, ReadingAs}
 use Rattle.runs.specs.Levels.{Shows}
 use Rattle.recording.specs.declared.Dimensions.{Dimensions}
-use Rattle.std.specs.Prelude.{Ok}
+use Rattle.recording.specs.declared.Fault as recording
+use Rattle.recording.specs.declared.Fault.TheVariants.{Length, Head, Change}
 use Rattle.recording.proofs.Refusals.{read_numbers, read_end}
 use Rattle.expression.specs.Expression.{Expression}
 use Rattle.expression.specs.Refusal.{Accepted, DrillRefused}
-use Rattle.parser.specs.declared.Parsed.{Parsed}
-use Rattle.parser.specs.declared.Parsed.TheVariants.{Root, WrongLength, NoForm, WrongLetter, WrongRange, TooDeep}
+use Rattle.parser.specs.declared.Fault.{Fault}
+use Rattle.parser.specs.declared.Fault.TheVariants.{WrongLength, NoForm, WrongLetter, WrongRange, TooDeep}
 use Rattle.parser.specs.Parsing.{ParsedAs}
 use Rattle.meaning.specs.Lists.{Value, value, Evaluates}
 use Rattle.std.specs.Prelude.{Result}
@@ -24,7 +25,7 @@ use Rattle.calls.specs.Within.{CallWithin, WithinAs}
 use Rattle.outcome.proofs.Numbers.{number_range}
 use Rattle.purse.specs.Purse.{Overflowing, Exceeding, Spending}
 use Rattle.delivery.specs.Working.{refusal_of, WorkedAs}
-use Rattle.calls.specs.Steps.{root_of}
+use Rattle.calls.specs.Refusals.{recording_refusal, drill_refusal}
 use Rattle.calls.proofs.Outcomes.{Without, recordings, drills, recording_call, drill_call, drill_none, work_call, overflow_call, spent_call, answer_call, accepted_call}
 
 -- A call whose outcome leaves both buffers as they were.
@@ -37,6 +38,13 @@ untouched {bytes} {text} {left} {answer} {work} {o} e c =
 abbrev pub outcome_of : Result Finished Shortage → Outcome
 outcome_of (Ok f) = Ok f
 outcome_of (Err s) = Err (refusal_of s)
+
+-- A recording that is refused decides the call.
+pub recording_read : (bytes text : List ℕ) (left : ℕ) (answer work : List ℤ) (e : recording.Fault) → ReadingAs largest bytes (Err e)
+    → WithinAs bytes text left answer work (Err (recording_refusal e)) left answer work
+recording_read bytes text left answer work Length h = untouched refl (recording_call bytes text left _ _ (Err Length) h)
+recording_read bytes text left answer work Head h = untouched refl (recording_call bytes text left _ _ (Err Head) h)
+recording_read bytes text left answer work Change h = untouched refl (recording_call bytes text left _ _ (Err Change) h)
 
 -- ---- on a recording that was read
 
@@ -51,25 +59,16 @@ module _ (bytes : List ℕ) (size : Dimensions) (read : ReadingAs largest bytes 
     none : Without bytes text left (length answer) (length work) recordings
     none = recording_call bytes text left (length answer) (length work) (Ok size) read
 
-    -- A drill that is refused.
+    -- A drill that is refused decides the call.
     drill_refused : (r : Refusal) → leaves (Err r) ≡ both → DrillRefused text size.channels (number_of r) → WithinAs bytes text left answer work (Err r) left answer work
     drill_refused r e f = untouched e (drill_call bytes text left (length answer) (length work) none (Err r) (number_range r).0 (rw same_channels at f))
 
-    -- What the parser answers is the tree of the drill, or decides the call.
-    abbrev pub DrillAs : List ℕ → Result ℕ Refusal → Type 0
-    DrillAs nodes (Ok n) = ParsedAs text size.channels nodes (Root n)
-    DrillAs nodes (Err r) = WithinAs bytes text left answer work (Err r) left answer work
-
-    drill_as : (nodes : List ℕ) (p : Parsed) → ParsedAs text size.channels nodes p → DrillAs nodes (root_of p)
-    drill_as nodes (Root n) h = h
-    drill_as nodes WrongLength h = drill_refused DrillLength refl h
-    drill_as nodes NoForm h = drill_refused DrillForm refl h
-    drill_as nodes WrongLetter h = drill_refused DrillLetter refl h
-    drill_as nodes WrongRange h = drill_refused DrillRange refl h
-    drill_as nodes TooDeep h = drill_refused DrillDepth refl h
-
-    pub drill_read : (nodes : List ℕ) (p : Parsed) {d k : Result ℕ Refusal} → ParsedAs text size.channels nodes p → d ≡ root_of p → d ≡ k → DrillAs nodes k
-    drill_read nodes p h e f = subst (DrillAs nodes) (sym e ∙ f) (drill_as nodes p h)
+    pub drill_read : (nodes : List ℕ) (f : Fault) → ParsedAs text size.channels nodes (Err f) → WithinAs bytes text left answer work (Err (drill_refusal f)) left answer work
+    drill_read nodes WrongLength h = drill_refused DrillLength refl h
+    drill_read nodes NoForm h = drill_refused DrillForm refl h
+    drill_read nodes WrongLetter h = drill_refused DrillLetter refl h
+    drill_read nodes WrongRange h = drill_refused DrillRange refl h
+    drill_read nodes TooDeep h = drill_refused DrillDepth refl h
 
     -- A drill that is accepted and worked out.
     module _ {e : Expression} (a : Accepted text size.channels e) where

@@ -4,3 +4,4 @@ pub mod Comes
 pub mod Rounds
 pub mod Outcomes
 pub mod Finding
+pub mod Exchanged

@@ -24,6 +24,7 @@ use Rattle.words.specs.Words.{zone_words}
 use Rattle.outcome.proofs.Numbers.{same_number}
 use Rattle.calls.specs.Causes.{CallAs.accepted}
 use Rattle.calls.specs.Outcome.{Err, Outcome, RecordingLength, RecordingHead, RecordingChange, DrillLength, DrillForm, DrillLetter, DrillRange, DrillDepth, WorkShort, Overflow, AnswerShort, RoundsSpent, listing, returned, both, answer-buffer, leaves, Comes, largest, room, NoRoom, refusals}
+use Rattle.calls.specs.Refusals.{recording_refusal}
 use Rattle.calls.specs.Within.{CauseWithin, refusals_within, CallWithin}
 use Rattle.purse.specs.Purse.{Overflowing, Exceeding}
 use Rattle.calls.proofs.Causes.{NoneOf, none, ◌also◌, none_of, none_append, refused_at}
@@ -62,9 +63,7 @@ module _ (bytes text : List ℕ) (left answer work : ℕ) where
   -- ---- the recording
 
   abbrev pub RecordingCall : Result Dimensions Fault → Type 0
-  RecordingCall (Err Length) = CallWithin bytes text left answer work (Err RecordingLength)
-  RecordingCall (Err Head) = CallWithin bytes text left answer work (Err RecordingHead)
-  RecordingCall (Err Change) = CallWithin bytes text left answer work (Err RecordingChange)
+  RecordingCall (Err e) = CallWithin bytes text left answer work (Err (recording_refusal e))
   RecordingCall (Ok size) = Without recordings
 
   -- What reading the recording answers decides the call, or rules out 1 to 3.

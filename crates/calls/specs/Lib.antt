@@ -2,4 +2,4 @@
 pub mod Causes
 pub mod Outcome
 pub mod Within
-pub mod Steps
+pub mod Refusals

@@ -6,68 +6,75 @@
 // call that is told the rounds left.
 #![tactic(auto)]
 
-ghost use Rattle.std.specs.Prelude.{◌≡◌, ◌*◌, ◌≤◌, min, length};
-ghost use Rattle.recording.specs.declared.Reading.TheVariants.{Recorded};
+ghost use Rattle.std.specs.Prelude.{◌≡◌, ◌*◌, ◌≤◌, min, length, Ok};
 ghost use Rattle.recording.specs.Reading.{ReadingAs};
 ghost use Rattle.calls.specs.Outcome.{largest};
+ghost use Rattle.calls.specs.Refusals.{recording_refusal, drill_refusal};
 ghost use Rattle.calls.specs.Within.{WithinAs};
-ghost use Rattle.calls.specs.Steps.{root_of};
 
 use outcome::{Outcome, Refusal};
-use parser::Parsed;
-use recording::Dimensions;
+use recording::Recording;
 
-// The root of a drill that was read, or the refusal of a call.
-fn root_of(parsed: Parsed) -> Result<u32, Refusal>
-    ensures { result ≡ root_of parsed }
+// The refusal of a call by what is wrong with its recording.
+pub fn recording_refusal(fault: recording::Fault) -> Refusal
+    ensures { result ≡ recording_refusal fault }
 {
-    match parsed {
-        Parsed::Root(root) => Ok(root),
-        Parsed::WrongLength => Err(Refusal::DrillLength),
-        Parsed::NoForm => Err(Refusal::DrillForm),
-        Parsed::WrongLetter => Err(Refusal::DrillLetter),
-        Parsed::WrongRange => Err(Refusal::DrillRange),
-        Parsed::TooDeep => Err(Refusal::DrillDepth),
+    match fault {
+        recording::Fault::Length => Refusal::RecordingLength,
+        recording::Fault::Head => Refusal::RecordingHead,
+        recording::Fault::Change => Refusal::RecordingChange,
+    }
+}
+
+// The refusal of a call by what is wrong with its drill.
+fn drill_refusal(fault: parser::Fault) -> Refusal
+    ensures { result ≡ drill_refusal fault }
+{
+    match fault {
+        parser::Fault::WrongLength => Refusal::DrillLength,
+        parser::Fault::NoForm => Refusal::DrillForm,
+        parser::Fault::WrongLetter => Refusal::DrillLetter,
+        parser::Fault::WrongRange => Refusal::DrillRange,
+        parser::Fault::TooDeep => Refusal::DrillDepth,
     }
 }
 
 // The drill read into so many nodes, and worked out on a recording that has been read.
 fn with_nodes<const N: usize>(
-    bytes: &[u8],
-    size: Dimensions,
+    recording: &Recording<'_>,
     drill: &[u8],
     left: &mut u64,
     answer: &mut [i32],
     work: &mut [i32],
 ) -> Outcome
-    requires read { ReadingAs largest bytes.now (Recorded size) }
+    requires read { ReadingAs largest recording.now.bytes.now (Ok recording.now.size) }
     requires enough { min (length drill.now) 255 * 4 ≤ N }
     requires few { N ≤ 1020 }
-    ensures { WithinAs bytes.now drill.now left.old answer.old work.old result left.new answer.new work.new }
+    ensures { WithinAs recording.now.bytes.now drill.now left.old answer.old work.old result left.new answer.new work.new }
 {
     let mut nodes = [0u32; N];
-    let root = root_of(parser::parse(drill, size.channels as usize, &mut nodes))?;
-    Ok(delivery::work_out(bytes, size, &nodes, root, left, answer, work)?)
+    let channels = usize::from(recording.size.channels);
+    let root = parser::parse(drill, channels, &mut nodes).map_err(drill_refusal)?;
+    Ok(delivery::work_out(recording, &nodes, root, left, answer, work)?)
 }
 
 // The outcome of a call whose recording has been read, with nodes of its own for the drill. An array is zeroed for each call, and
 // most drills are short.
 pub fn find_in(
-    bytes: &[u8],
-    size: Dimensions,
+    recording: &Recording<'_>,
     drill: &[u8],
     left: &mut u64,
     answer: &mut [i32],
     work: &mut [i32],
 ) -> Outcome
-    requires { ReadingAs largest bytes.now (Recorded size) }
-    ensures { WithinAs bytes.now drill.now left.old answer.old work.old result left.new answer.new work.new }
+    requires { ReadingAs largest recording.now.bytes.now (Ok recording.now.size) }
+    ensures { WithinAs recording.now.bytes.now drill.now left.old answer.old work.old result left.new answer.new work.new }
 {
     if drill.len() < 16 {
-        return with_nodes::<60>(bytes, size, drill, left, answer, work);
+        return with_nodes::<60>(recording, drill, left, answer, work);
     }
     if drill.len() < 64 {
-        return with_nodes::<252>(bytes, size, drill, left, answer, work);
+        return with_nodes::<252>(recording, drill, left, answer, work);
     }
-    with_nodes::<1020>(bytes, size, drill, left, answer, work)
+    with_nodes::<1020>(recording, drill, left, answer, work)
 }

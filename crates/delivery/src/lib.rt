@@ -7,7 +7,6 @@
 ghost use Rattle.std.specs.Prelude.{◌≡◌, ◌*◌, ◌≤◌, length};
 ghost use Rattle.words.specs.Words.{zone_words};
 ghost use Rattle.list.specs.Slots.{list_at};
-ghost use Rattle.recording.specs.Reading.{IsRecording};
 ghost use Rattle.evaluation.specs.Evaluating.{Rooted};
 ghost use Rattle.delivery.specs.Buffers.{room, words, fronted, cleared};
 ghost use Rattle.delivery.specs.Steps.{InFront, comes_to, left_of, answer_after};
@@ -16,7 +15,7 @@ ghost use Rattle.delivery.specs.Working.{refusal_of, Works};
 use outcome::{Finished, Refusal};
 use primaries::Window;
 use purse::Evaluated;
-use recording::Dimensions;
+use recording::Recording;
 
 // The work words that a call needs.
 pub const WORK_WORDS: usize = 16_384;
@@ -97,26 +96,21 @@ fn deliver(
 
 // A stored drill worked out within the rounds left: its list evaluated in the work buffer and delivered, and the work buffer cleared.
 pub fn work_out(
-    bytes: &[u8],
-    size: Dimensions,
+    recording: &Recording<'_>,
     nodes: &[u32],
     root: u32,
     left: &mut u64,
     answer: &mut [i32],
     work: &mut [i32],
 ) -> Result<Finished, Shortage>
-    requires { (IsRecording bytes.now size) × (Rooted nodes.now size.channels root 16) }
-    ensures { Works bytes.now nodes.now size root left.old result left.new answer.old work.old answer.new work.new }
+    requires { Rooted nodes.now recording.now.size.channels root 16 }
+    ensures { Works recording.now.bytes.now nodes.now recording.now.size root left.old result left.new answer.old work.old answer.new work.new }
 {
     if work.len() < WORK_WORDS {
         return Err(Shortage::WorkShort);
     }
-    let whole = Window {
-        size,
-        from: 0,
-        to: size.ticks,
-    };
-    let evaluated = evaluation::evaluate(bytes, whole, nodes, root, work, 0, 16, *left);
+    let window = Window::whole(recording);
+    let evaluated = evaluation::evaluate(&window, nodes, root, work, 0, 16, *left);
     let worked = deliver(evaluated, left, work, answer);
     clear(work);
     worked

@@ -8,8 +8,7 @@
 
 ghost use Rattle.finder.specs.Demands.{Demand1, Demand1Within, Demand2, Demand3};
 
-use outcome::{Outcome, Refusal};
-use recording::Reading;
+use outcome::Outcome;
 
 // The bytes of the largest recording, and the work words that a call needs.
 pub const LARGEST: usize = 32_768;
@@ -32,12 +31,8 @@ pub fn find_within(
     ensures demand2 { Demand2 recording.now drill.now result answer.new }
     ensures demand3 { Demand3 recording.now drill.now result }
 {
-    match recording::read(recording, LARGEST) {
-        Reading::Recorded(size) => calls::find_in(recording, size, drill, left, answer, work),
-        Reading::WrongLength => Err(Refusal::RecordingLength),
-        Reading::WrongHead => Err(Refusal::RecordingHead),
-        Reading::WrongChange => Err(Refusal::RecordingChange),
-    }
+    let recording = recording::read(recording, LARGEST).map_err(calls::recording_refusal)?;
+    calls::find_in(&recording, drill, left, answer, work)
 }
 
 // Lists every stretch of the recording that fits the drill, as zones in front of the answer buffer, or refuses.
