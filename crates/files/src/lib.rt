@@ -1,7 +1,7 @@
 // What counts of a file: as much as a buffer has room for, and the text of a drill without its final newline.
 #![tactic(auto)]
 
-ghost use Rattle.std.specs.Prelude.{◌≡◌, take};
+ghost use Rattle.std.specs.Prelude.{◌≡◌, length, take};
 ghost use Rattle.io.specs.Counts.{IsPrefixLen};
 ghost use Rattle.std.specs.Io.KnownBytes.{Consumes};
 ghost use Rattle.files.specs.Files.{trimmed};
@@ -10,11 +10,13 @@ use std::fs;
 use std::io::Read;
 use std::rt::Files;
 
-// The first bytes of a file: as many as there is room for.
+// The first bytes of a file: as many as there is room for. The ghost fields tell who has only a reference how much room that
+// is, and that so many bytes can be handed out.
 #[derive(Drop)]
 pub struct Loaded<const N: usize> {
     pub buffer: [u8; N],
     pub filled: usize,
+    ghost room: { length buffer ≡ N },
     ghost within: { IsPrefixLen filled buffer },
 }
 
