@@ -4,8 +4,7 @@
 // specs/Absence.antt has the rule over plain lists of zones; proofs/Theorems.antt is the page of laws that crates above cite.
 #![tactic(auto)]
 
-ghost use Rattle.std.specs.Prelude.{[], ◌∷◌, map, ◌+◌, ◌*◌, ◌≤◌, length};
-ghost use Rattle.zone.specs.declared.MaybeZone.TheVariants.{Zone as zone};
+ghost use Rattle.std.specs.Prelude.{[], ◌∷◌, map, ◌+◌, ◌*◌, ◌≤◌, length, Some};
 ghost use Rattle.zone.specs.Zone.{Proper};
 ghost use Rattle.words.specs.Words.{zone_words, zone_at};
 ghost use Rattle.parts.specs.Parts.{parts};
@@ -22,15 +21,15 @@ use growing::{Growing, Grown};
 use list::SLOT_WORDS;
 use operators::Listed;
 use words::ZONE_WORDS;
-use zone::{MaybeZone, Zone};
+use zone::Zone;
 
 // Puts what is left of a zone, if anything is. It shares no stretch with a listed zone, so that it goes last without a look.
-fn put_left(words: &mut [i32], target: usize, g: Growing, left: MaybeZone) -> Grown
+fn put_left(words: &mut [i32], target: usize, g: Growing, left: Option<Zone>) -> Grown
     requires { (Stands words.old target g) × (Listable (list_at words.old target g.count) left) }
     ensures grown { GrowsAs (left ∷ []) NoPair g words.old target words.new result }
     ensures kept { Kept target slot_words words.old words.new }
 {
-    let MaybeZone::Zone(z) = left else {
+    let Some(z) = left else {
         return Grown::Grew(g);
     };
     let mut w = [0i32; ZONE_WORDS];
@@ -97,7 +96,7 @@ fn put_each(
 
 // The new list for the operand's zone at `cut`: the parts outside it of the n zones at `source`, built at `target`.
 fn without(words: &mut [i32], source: usize, n: usize, cut: usize, target: usize) -> Listed
-    requires { (Supply words.old source n target 0) × (Zones words.old cut 1 target) × (ShareNone (map zone (list_at words.old source n))) }
+    requires { (Supply words.old source n target 0) × (Zones words.old cut 1 target) × (ShareNone (map Some (list_at words.old source n))) }
     ensures built { BuiltAs (without (zone_at words.old cut) (list_at words.old source n)) words.new target result }
     ensures kept { Kept target slot_words words.old words.new }
 {

@@ -1,4 +1,5 @@
 -- The ends that are put together from a list of tight zones are those of its stretches from the tick.
+use Rattle.std.specs.Prelude.{Option, Some, None}
 use mathlib.Core.Path.{◌≡◌, refl, sym, subst}
 use mathlib.Core.Bool.{Bool, true, false, cond}
 use mathlib.Core.Logic.{◌↔◌, ◌⊎◌, inl, inr, ⊎_map, ⊎_elim}
@@ -20,8 +21,6 @@ use Rattle.limit.proofs.Strict.{not_both}
 use Rattle.limit.proofs.Common.{within_widen}
 use Rattle.limit.proofs.Order as order
 use Rattle.zone.specs.declared.Zone.{Zone}
-use Rattle.zone.specs.declared.MaybeZone.{MaybeZone}
-use Rattle.zone.specs.declared.MaybeZone.TheVariants.{Zone as zone, Empty as empty}
 use Rattle.zone.specs.Zone.{In, InMaybe, Tight, TightMaybe, Side, on-end, on-nend, limit, upper, lower, Keeps, compose, diagonal}
 use Rattle.zone.proofs.Sharp.{on}
 use Rattle.zone.proofs.Fine.{multiple}
@@ -90,12 +89,12 @@ sees_same Unseen f h = λ x y r. h x y ((f x y).1 r)
 sees_same (Limits e ne) f h = (peak_same f h.0, peak_same f h.1)
 
 -- One answer more: what was seen, and its members.
-see_sees : (S : Time → Time → Type 0) (seen : Seen) (r : MaybeZone) → Sees S seen → TightMaybe r → Sees (λ x y. S x y ⊎ InMaybe r x y) (see seen r)
-see_sees S seen empty h t = sees_same seen (λ x y. (inl, ⊎_elim (λ i. i) (λ i. absurd i))) h
-see_sees S Unseen (zone z) h t =
+see_sees : (S : Time → Time → Type 0) (seen : Seen) (r : Option Zone) → Sees S seen → TightMaybe r → Sees (λ x y. S x y ⊎ InMaybe r x y) (see seen r)
+see_sees S seen None h t = sees_same seen (λ x y. (inl, ⊎_elim (λ i. i) (λ i. absurd i))) h
+see_sees S Unseen (Some z) h t =
     let f : (x y : Time) → In z x y ↔ (S x y ⊎ In z x y) = λ x y. (inr, ⊎_elim (λ i. absurd (h x y i)) (λ i. i)) in
     (peak_same f (peak_zone t on-end), peak_same f (peak_zone t on-nend))
-see_sees S (Limits e ne) (zone z) h t = (peak_both e z.end h.0 (peak_zone t on-end), peak_both ne z.nend h.1 (peak_zone t on-nend))
+see_sees S (Limits e ne) (Some z) h t = (peak_both e z.end h.0 (peak_zone t on-end), peak_both ne z.nend h.1 (peak_zone t on-nend))
 
 -- ---- the stretches from tick s
 

@@ -1,19 +1,18 @@
 -- Private contracts alone cite this file: the ends as they are put together from a list of zones.
-use Rattle.std.specs.Prelude.{ℕ, suc, ℤ, pos, negsuc}
+use Rattle.std.specs.Prelude.{ℕ, suc, ℤ, pos, negsuc, Option, Some, None}
 use Rattle.limit.specs.declared.Limit.{Limit}
 use Rattle.limit.specs.declared.Limit.TheVariants.{AtMost, Below}
 use Rattle.limit.specs.Limit.{greater}
-use Rattle.zone.specs.declared.MaybeZone.{MaybeZone}
-use Rattle.zone.specs.declared.MaybeZone.TheVariants.{Zone as zone, Empty as empty}
 use Rattle.extremes.specs.declared.Seen.{Seen}
 use Rattle.extremes.specs.declared.Seen.TheVariants.{Unseen, Limits}
 use Rattle.extremes.specs.Ends.{Extreme, Reached, Unreached, Ends, Nothing, Between}
+use Rattle.zone.specs.declared.Zone.{Zone}
 
 -- one answer of a composition more
-abbrev pub see : Seen → MaybeZone → Seen
-see seen empty = seen
-see Unseen (zone z) = Limits z.end z.nend
-see (Limits e ne) (zone z) = Limits (greater e z.end) (greater ne z.nend)
+abbrev pub see : Seen → Option Zone → Seen
+see seen None = seen
+see Unseen (Some z) = Limits z.end z.nend
+see (Limits e ne) (Some z) = Limits (greater e z.end) (greater ne z.nend)
 
 -- how far a number is above 0, and how far below
 abbrev pub above : ℤ → ℕ

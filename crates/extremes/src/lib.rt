@@ -15,7 +15,7 @@ ghost use Rattle.extremes.specs.Steps.{see, above, under, latest, earliest, told
 
 use limit::Limit;
 use words::ZONE_WORDS;
-use zone::{MaybeZone, Zone};
+use zone::Zone;
 
 // The earliest or the latest end, in whole ticks: reached by some stretch, or only approached.
 #[derive(Clone, Copy)]
@@ -45,10 +45,10 @@ fn greater(a: Limit, b: Limit) -> Limit
 }
 
 // One zone more, or none.
-fn see(seen: Seen, more: MaybeZone) -> Seen
+fn see(seen: Seen, more: Option<Zone>) -> Seen
     ensures { result ≡ see seen more }
 {
-    let MaybeZone::Zone(z) = more else {
+    let Some(z) = more else {
         return seen;
     };
     let end = z.end;

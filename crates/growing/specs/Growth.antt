@@ -1,9 +1,8 @@
 -- What puts into a list that is there already answer.
-use Rattle.std.specs.Prelude.{◌≡◌, ℕ, zero, suc, ◌+◌, ℤ}
+use Rattle.std.specs.Prelude.{◌≡◌, ℕ, zero, suc, ◌+◌, ℤ, Option}
 use mathlib.Core.List.{List, Memᴰ}
 use Rattle.limit.specs.Limit.{◌≤ᴸ◌, decode}
 use Rattle.zone.specs.declared.Zone.{Zone}
-use Rattle.zone.specs.declared.MaybeZone.{MaybeZone}
 use Rattle.list.specs.Insert.{Built, listed, overflow, insert_each}
 use Rattle.list.specs.Members.{Covered}
 use Rattle.list.specs.Slots.{Free, Slot, list_at, Holds, Sound}
@@ -63,5 +62,5 @@ abbrev pub NoPair : ℕ → Type 0
 NoPair n = n ≡ 0
 
 -- the zones `offered`, put into the list that stands as g among the words ws, with the words vs after
-abbrev pub GrowsAs : List MaybeZone → (ℕ → Type 0) → Growing → List ℤ → ℕ → List ℤ → Grown → Type 0
+abbrev pub GrowsAs : List (Option Zone) → (ℕ → Type 0) → Growing → List ℤ → ℕ → List ℤ → Grown → Type 0
 GrowsAs offered Counts g ws target vs = GrownAs (insert_each offered (list_at ws target g.count)) Counts g (list_at ws target g.count) vs target

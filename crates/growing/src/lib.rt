@@ -4,8 +4,7 @@
 // all of the list lies apart from them, and goes last at once.
 #![tactic(auto)]
 
-ghost use Rattle.std.specs.Prelude.{[], ◌∷◌};
-ghost use Rattle.zone.specs.declared.MaybeZone.TheVariants.{Zone as zone};
+ghost use Rattle.std.specs.Prelude.{[], ◌∷◌, Some};
 ghost use Rattle.zone.specs.Zone.{Ranged};
 ghost use Rattle.words.specs.Words.{zone_at};
 ghost use Rattle.list.specs.Members.{Apart};
@@ -127,7 +126,7 @@ fn after_put(g: Growing, answer: Inserted, w: &[i32; ZONE_WORDS]) -> Grown
 // Puts one zone more, that of six words w, and marks whether it was placed. No pair is composed.
 pub fn grow_words(words: &mut [i32], target: usize, g: Growing, w: &[i32; ZONE_WORDS]) -> Grown
     requires { Stands words.old target g }
-    ensures grown { GrowsAs (zone (zone_at w.now 0) ∷ []) NoPair g words.old target words.new result }
+    ensures grown { GrowsAs (Some (zone_at w.now 0) ∷ []) NoPair g words.old target words.new result }
     ensures kept { Kept target slot_words words.old words.new }
 {
     let answer = put(words, target, g, w);
@@ -137,7 +136,7 @@ pub fn grow_words(words: &mut [i32], target: usize, g: Growing, w: &[i32; ZONE_W
 // The same of a zone that lies inside no listed zone and around none: the list is not looked through.
 pub fn grow_apart(words: &mut [i32], target: usize, g: Growing, w: &[i32; ZONE_WORDS]) -> Grown
     requires { (Stands words.old target g) × (Apart (zone_at w.now 0) (list_at words.old target g.count)) }
-    ensures grown { GrowsAs (zone (zone_at w.now 0) ∷ []) NoPair g words.old target words.new result }
+    ensures grown { GrowsAs (Some (zone_at w.now 0) ∷ []) NoPair g words.old target words.new result }
     ensures kept { Kept target slot_words words.old words.new }
 {
     let answer = list::insert_apart(words, target, g.count, w);
@@ -147,7 +146,7 @@ pub fn grow_apart(words: &mut [i32], target: usize, g: Growing, w: &[i32; ZONE_W
 // The same of a zone by itself, for which how late it starts is not asked.
 pub fn grow(words: &mut [i32], target: usize, g: Growing, z: Zone) -> Grown
     requires { (Stands words.old target g) × (Ranged 1_000_000 z) }
-    ensures grown { GrowsAs (zone z ∷ []) NoPair g words.old target words.new result }
+    ensures grown { GrowsAs (Some z ∷ []) NoPair g words.old target words.new result }
     ensures kept { Kept target slot_words words.old words.new }
 {
     let mut w = [0i32; ZONE_WORDS];

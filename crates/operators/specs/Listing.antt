@@ -1,8 +1,6 @@
 -- What an operator requires and answers, in the slots of a buffer.
-use Rattle.std.specs.Prelude.{◌≡◌, List, ℕ, ℤ}
+use Rattle.std.specs.Prelude.{◌≡◌, List, ℕ, ℤ, Option, Some, None}
 use Rattle.zone.specs.declared.Zone.{Zone}
-use Rattle.zone.specs.declared.MaybeZone.{MaybeZone}
-use Rattle.zone.specs.declared.MaybeZone.TheVariants.{Zone as zone, Empty as empty}
 use Rattle.zone.specs.Zone.{Proper}
 use Rattle.list.specs.Insert.{Built, listed, overflow}
 use Rattle.list.specs.Slots.{Free, Source, Disjoint, Holds}
@@ -24,9 +22,9 @@ pub record Workspace (ws : List ℤ) (source n target scratch : ℕ) : Type 0 wh
   pub both_apart : Disjoint target scratch
 
 -- a band that zones can be met with
-abbrev pub SoundBand : MaybeZone → Type 0
-SoundBand (zone z) = Proper 0 1_000_000 z
-SoundBand empty = Unit {0}
+abbrev pub SoundBand : Option Zone → Type 0
+SoundBand (Some z) = Proper 0 1_000_000 z
+SoundBand None = Unit {0}
 
 -- what an operator answers, where the rule comes to `built`: the slot at `target` holds the list, or one would have 129 zones and the slot is free
 pub record Listing (built : Built) (vs : List ℤ) (target n : ℕ) : Type 0 where

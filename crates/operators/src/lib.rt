@@ -4,8 +4,7 @@
 // inside 0..1,000,000, which every rule keeps.
 #![tactic(auto)]
 
-ghost use Rattle.std.specs.Prelude.{[], ◌∷◌, map, ◌+◌, ◌≤◌, length};
-ghost use Rattle.zone.specs.declared.MaybeZone.TheVariants.{Zone as zone};
+ghost use Rattle.std.specs.Prelude.{[], ◌∷◌, map, ◌+◌, ◌≤◌, length, Some};
 ghost use Rattle.words.specs.Words.{zone_words, zone_at};
 ghost use Rattle.operators.specs.Operators.{union, meets, banded};
 ghost use Rattle.list.specs.Slots.{slot_words, list_at, Free, Kept, KeptBoth};
@@ -16,7 +15,7 @@ ghost use Rattle.operators.specs.Listing.{Workspace, SoundBand, BuiltAs, Compose
 use growing::{Growing, Grown};
 use pairs::Operation;
 use words::ZONE_WORDS;
-use zone::MaybeZone;
+use zone::Zone;
 
 // What an operator comes to: a list with its count, or one that would have 129 zones.
 #[derive(Clone, Copy)]
@@ -35,7 +34,7 @@ pub enum Composed {
 // Puts the zone from `at` on.
 fn grow_from(words: &mut [i32], at: usize, target: usize, g: Growing) -> Grown
     requires { (at + zone_words ≤ length words.old) × (Stands words.old target g) }
-    ensures grown { GrowsAs (zone (zone_at words.old at) ∷ []) NoPair g words.old target words.new result }
+    ensures grown { GrowsAs (Some (zone_at words.old at) ∷ []) NoPair g words.old target words.new result }
     ensures kept { Kept target slot_words words.old words.new }
 {
     let mut w = [0i32; ZONE_WORDS];
@@ -46,7 +45,7 @@ fn grow_from(words: &mut [i32], at: usize, target: usize, g: Growing) -> Grown
 // Puts the n zones of a slot, in their order.
 fn each_zone(words: &mut [i32], source: usize, n: usize, target: usize, g: Growing) -> Grown
     requires { (Supply words.old source n target g.count) × (Stands words.old target g) }
-    ensures grown { GrowsAs (map zone (list_at words.old source n)) NoPair g words.old target words.new result }
+    ensures grown { GrowsAs (map Some (list_at words.old source n)) NoPair g words.old target words.new result }
     ensures kept { Kept target slot_words words.old words.new }
 {
     let mut grown = g;
@@ -135,7 +134,7 @@ pub fn band(
     words: &mut [i32],
     source: usize,
     n: usize,
-    limits: MaybeZone,
+    limits: Option<Zone>,
     scratch: usize,
     target: usize,
 ) -> Listed
@@ -144,7 +143,7 @@ pub fn band(
     ensures kept { KeptBoth target scratch words.old words.new }
     ensures free { Free words.new scratch }
 {
-    let MaybeZone::Zone(z) = limits else {
+    let Some(z) = limits else {
         return Listed::Count(0);
     };
     words::write_zone(words, scratch, z);

@@ -1,7 +1,6 @@
 -- One zone with each of some others: what is required, and what is put.
-use Rattle.std.specs.Prelude.{◌⊎◌, List, map, ℕ, ◌+◌, ◌*◌, ◌≤◌, ℤ, length}
+use Rattle.std.specs.Prelude.{◌⊎◌, List, map, ℕ, ◌+◌, ◌*◌, ◌≤◌, ℤ, length, Option}
 use Rattle.zone.specs.declared.Zone.{Zone}
-use Rattle.zone.specs.declared.MaybeZone.{MaybeZone}
 use Rattle.words.specs.Words.{zone_words}
 use Rattle.list.specs.Slots.{slot_words, list_at, Sound}
 use Rattle.growing.specs.declared.Growing.{Growing}
@@ -28,7 +27,7 @@ pub record Pairing (ws : List ℤ) (left right m target : ℕ) (g : Growing) : T
   pub countable : g.pairs + m ≤ most_pairs
 
 -- what an operation makes of a pair
-abbrev pub applied : Operation → Zone × Zone → MaybeZone
+abbrev pub applied : Operation → Zone × Zone → Option Zone
 applied op p = apply op p.0 p.1
 
 -- the pairs ps, put into the list that stands as g among the words ws, with the words vs after

@@ -14,7 +14,7 @@ ghost use Rattle.pairs.specs.Steps.{one_more};
 
 use growing::{Growing, Grown};
 use words::ZONE_WORDS;
-use zone::{MaybeZone, Zone};
+use zone::Zone;
 
 // The operations on pairs of zones.
 #[derive(Clone, Copy)]
@@ -39,7 +39,7 @@ fn count_pair(g: Growing) -> Growing
 
 // The composition of two zones that have a time in common, an end of the one and a start of the other. The pair loop has no other way to
 // a composition.
-fn compose_touching(z: Zone, w: Zone) -> MaybeZone
+fn compose_touching(z: Zone, w: Zone) -> Option<Zone>
     requires { (Proper 0 1_000_000 z) × (Proper 0 1_000_000 w) × (Touches z w) }
     ensures { result ≡ compose z w }
 {
@@ -70,7 +70,7 @@ fn each_composition(
         }
         let z = words::read_zone(words, left);
         let w = words::read_zone(words, at);
-        let MaybeZone::Zone(v) = compose_touching(z, w) else {
+        let Some(v) = compose_touching(z, w) else {
             continue; // never: the two have a time in common
         };
         let mut out = [0i32; ZONE_WORDS];
@@ -102,7 +102,7 @@ fn each_meet(
         let z = words::read_zone(words, left);
         let w = words::read_zone(words, right + j * ZONE_WORDS);
         j += 1;
-        let MaybeZone::Zone(v) = z.meet(w) else {
+        let Some(v) = z.meet(w) else {
             continue;
         };
         let mut out = [0i32; ZONE_WORDS];

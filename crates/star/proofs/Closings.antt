@@ -1,4 +1,5 @@
 -- What the loops have put together, as the answers of a round and of a star.
+use Rattle.std.specs.Prelude.{Some}
 use mathlib.Core.Path.{◌≡◌, refl, sym, ap, subst, ◌∙◌}
 use mathlib.Core.Logic.{◌⊎◌, inl, inr}
 use mathlib.Core.List.{List, [], ◌∷◌}
@@ -6,7 +7,6 @@ use Prim.Native.Nat.{ℕ, ◌+◌, ◌*◌, ◌≤◌, ◌<◌}
 use native.Mathlib.Omega.{arith}
 use lib.IntN.{ℤ}
 use Rattle.zone.specs.declared.Zone.{Zone}
-use Rattle.zone.specs.declared.MaybeZone.TheVariants.{Zone as zone}
 use Rattle.list.specs.Insert as puts
 use Rattle.list.specs.Insert.{Built, listed, insert_each}
 use Rattle.pairs.specs.declared.Operation.TheVariants.{Compose}
@@ -115,32 +115,32 @@ module _ (diag : Zone) {L : List Zone} (us : List ℤ) (target n : ℕ) {g : Gro
   brought : list_at us target g.count ≡ L
   brought = ap (list_at us target) b.count ∙ e
 
-  pub put_overflow : {P : Type 0} → (insert_each (zone diag ∷ []) (list_at us target g.count) ≡ puts.overflow) × P → (insert_each (zone diag ∷ []) L ≡ puts.overflow) × P
-  put_overflow o = (subst (λ (K : List Zone). insert_each (zone diag ∷ []) K ≡ puts.overflow) brought o.0, o.1)
+  pub put_overflow : {P : Type 0} → (insert_each (Some diag ∷ []) (list_at us target g.count) ≡ puts.overflow) × P → (insert_each (Some diag ∷ []) L ≡ puts.overflow) × P
+  put_overflow o = (subst (λ (K : List Zone). insert_each (Some diag ∷ []) K ≡ puts.overflow) brought o.0, o.1)
 
-  pub put_listing : {Counts : ℕ → Type 0} {h : Growing} {vs : List ℤ} → Growth (insert_each (zone diag ∷ []) (list_at us target g.count)) Counts g (list_at us target g.count) vs target h → Listing (insert_each (zone diag ∷ []) L) vs target h.count
-  put_listing w = record { list = w.list; value = subst (λ (K : List Zone). insert_each (zone diag ∷ []) K ≡ listed w.list) brought w.value; holds = w.holds }
+  pub put_listing : {Counts : ℕ → Type 0} {h : Growing} {vs : List ℤ} → Growth (insert_each (Some diag ∷ []) (list_at us target g.count)) Counts g (list_at us target g.count) vs target h → Listing (insert_each (Some diag ∷ []) L) vs target h.count
+  put_listing w = record { list = w.list; value = subst (λ (K : List Zone). insert_each (Some diag ∷ []) K ≡ listed w.list) brought w.value; holds = w.holds }
 
 module _ {inner : List Zone} (diag : Zone) {told first second : ℕ} {us : List ℤ} {at n left : ℕ} (w : Ending inner told first second us at n left) where
-  pub star_overflow : {P : Type 0} → (insert_each (zone diag ∷ []) (list_at us at n) ≡ puts.overflow) × P → Overflowed (Star inner diag) told left
+  pub star_overflow : {P : Type 0} → (insert_each (Some diag ∷ []) (list_at us at n) ≡ puts.overflow) × P → Overflowed (Star inner diag) told left
   star_overflow (e, _) =
       let s = w.standing.spends in
       record {
         overflowing = record {
           opened = w.standing.rounds;
           done = w.standing.rounds;
-          means = diagonal_overflows w.standing.means (subst (λ (L : List Zone). insert_each (zone diag ∷ []) L ≡ puts.overflow) w.standing.holds.zones e);
+          means = diagonal_overflows w.standing.means (subst (λ (L : List Zone). insert_each (Some diag ∷ []) L ≡ puts.overflow) w.standing.holds.zones e);
           within = omega arith;
         };
         spends = s;
       }
 
-  pub star_closed : {vs : List ℤ} {target k : ℕ} → Listing (insert_each (zone diag ∷ []) (list_at us at n)) vs target k → Standing (Star inner diag) told vs target k left
+  pub star_closed : {vs : List ℤ} {target k : ℕ} → Listing (insert_each (Some diag ∷ []) (list_at us at n)) vs target k → Standing (Star inner diag) told vs target k left
   star_closed l =
       record {
         list = l.list;
         rounds = w.standing.rounds;
-        means = closed w.standing.means (subst (λ (L : List Zone). insert_each (zone diag ∷ []) L ≡ listed l.list) w.standing.holds.zones l.value);
+        means = closed w.standing.means (subst (λ (L : List Zone). insert_each (Some diag ∷ []) L ≡ listed l.list) w.standing.holds.zones l.value);
         spends = w.standing.spends;
         holds = l.holds;
       }
@@ -153,10 +153,10 @@ rounds_overflow b =
 pub rounds_exceed : {inner : List Zone} (diag : Zone) {told : ℕ} → Exceeding (Rounds inner inner) told → Exceeding (Star inner diag) told
 rounds_exceed {inner} diag {told} x = go x.whole x.means x.beyond
   where
-    put : {r : ℕ} {F : List Zone} → Rounds inner inner (value F r) → told < r → (b : Built) → insert_each (zone diag ∷ []) F ≡ b → Exceeding (Star inner diag) told
+    put : {r : ℕ} {F : List Zone} → Rounds inner inner (value F r) → told < r → (b : Built) → insert_each (Some diag ∷ []) F ≡ b → Exceeding (Star inner diag) told
     put {r} t h (listed G) e = record { whole = value G r; means = closed t e; beyond = h }
     put {r} t h puts.overflow e = record { whole = overflow r r; means = diagonal_overflows t e; beyond = h }
 
     go : (v : Value) → Rounds inner inner v → told < begun v → Exceeding (Star inner diag) told
-    go (value F r) t h = put t h (insert_each (zone diag ∷ []) F) refl
+    go (value F r) t h = put t h (insert_each (Some diag ∷ []) F) refl
     go (overflow b f) t h = record { whole = overflow b f; means = round_overflows t; beyond = h }

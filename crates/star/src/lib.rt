@@ -3,9 +3,8 @@
 // specs/Star.antt says what the rounds come to, over plain lists of zones.
 #![tactic(auto)]
 
-ghost use Rattle.std.specs.Prelude.{◌≡◌, ◌⊎◌, [], ◌∷◌, ◌≤◌};
+ghost use Rattle.std.specs.Prelude.{◌≡◌, ◌⊎◌, [], ◌∷◌, ◌≤◌, Some};
 ghost use Rattle.zone.specs.Zone.{diagonal};
-ghost use Rattle.zone.specs.declared.MaybeZone.TheVariants.{Zone as zone};
 ghost use Rattle.list.specs.Insert.{insert_each};
 ghost use Rattle.list.specs.Slots.{slot_words, list_at, Free, Source, Kept, KeptBoth, Disjoint};
 ghost use Rattle.pairs.specs.Operands.{Operands};
@@ -111,7 +110,7 @@ fn all_rounds(
 // The list of n zones at `at`, brought to `target`, with the diagonal of ticks from..to put into it.
 fn close(words: &mut [i32], at: usize, n: usize, target: usize, from: u32, to: u32) -> Listed
     requires { (Source words.old at n) × (Free words.old target) × ((at ≡ target) ⊎ (Disjoint at target)) × (from ≤ to) × (to ≤ 1_000_000) }
-    ensures built { BuiltAs (insert_each (zone (diagonal from to) ∷ []) (list_at words.old at n)) words.new target result }
+    ensures built { BuiltAs (insert_each (Some (diagonal from to) ∷ []) (list_at words.old at n)) words.new target result }
     ensures kept { Kept target slot_words words.old words.new }
 {
     list::bring(words, at, n, target);

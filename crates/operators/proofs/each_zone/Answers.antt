@@ -1,3 +1,4 @@
+use Rattle.std.specs.Prelude.{Some}
 use Rattle.std.proofs.Common.{[], ◌∷◌, map, ◌≡◌, refl, sym, ap, ◌∙◌, ◌+◌, ◌-◌, ◌*◌, arith}
 use Rattle.growing.proofs.Going.{Going, going_start, going_same, going_on, going_overflow, going_end}
 use Rattle.list.proofs.Scan.{nothing_left}
@@ -7,22 +8,21 @@ use Rattle.list.specs.Slots.{list_at}
 use Rattle.operators.proofs.Listings.{zones_next}
 use Rattle.pairs.proofs.Zones.{supply_zones, read_there}
 use Rattle.words.specs.Words.{zone_at}
-use Rattle.zone.specs.declared.MaybeZone.TheVariants.{Zone as zone}
 use Rattle.operators.proofs.each_zone.Goals as goal
 use Rattle.operators.proofs.each_zone.Goals.{After-grow_from}
 
 -- the zone at hand is the next to be put
-ahead : (c : After-grow_from) → Going (zone (zone_at c.loop-i.words (c.args.source + c.loop-i.i * 6)) ∷ map zone (list_at c.args.words.now (c.args.source + (c.loop-i.i + 1) * 6) (c.args.n - (c.loop-i.i + 1)))) (insert_each (map zone (list_at c.args.words.now c.args.source c.args.n)) (list_at c.args.words.now c.args.target c.args.g.count)) c.args.g (list_at c.args.words.now c.args.target c.args.g.count) c.args.target c.args.words.now c.loop-i.words c.loop-i.grown
+ahead : (c : After-grow_from) → Going (Some (zone_at c.loop-i.words (c.args.source + c.loop-i.i * 6)) ∷ map Some (list_at c.args.words.now (c.args.source + (c.loop-i.i + 1) * 6) (c.args.n - (c.loop-i.i + 1)))) (insert_each (map Some (list_at c.args.words.now c.args.source c.args.n)) (list_at c.args.words.now c.args.target c.args.g.count)) c.args.g (list_at c.args.words.now c.args.target c.args.g.count) c.args.target c.args.words.now c.loop-i.words c.loop-i.grown
 ahead c =
     going_same
-    (zones_next _ _ _ c.loop-i.i c.loop-i-test.true ∙ ap (λ z. zone z ∷ map zone (list_at c.args.words.now (c.args.source + (c.loop-i.i + 1) * 6) (c.args.n - (c.loop-i.i + 1)))) (sym (read_there (supply_zones c.requires.0) c.loop-i.i c.loop-i-test.true c.loop-i.invariant.2.frame)))
+    (zones_next _ _ _ c.loop-i.i c.loop-i-test.true ∙ ap (λ z. Some z ∷ map Some (list_at c.args.words.now (c.args.source + (c.loop-i.i + 1) * 6) (c.args.n - (c.loop-i.i + 1)))) (sym (read_there (supply_zones c.requires.0) c.loop-i.i c.loop-i-test.true c.loop-i.invariant.2.frame)))
     c.loop-i.invariant.2
 
 pub loop-i-init : goal.loop-i-init
 loop-i-init c =
     let e : c.args.source + 0 * 6 ≡ c.args.source = omega arith in
     let f : c.args.n - 0 ≡ c.args.n = omega arith in
-    (omega arith, refl, going_same (rw (e, f)) (going_start (map zone (list_at c.args.words.now c.args.source c.args.n)) _ _ _ c.requires.1))
+    (omega arith, refl, going_same (rw (e, f)) (going_start (map Some (list_at c.args.words.now c.args.source c.args.n)) _ _ _ c.requires.1))
 
 pub overflow_mul-i : goal.overflow_mul-i
 overflow_mul-i c = omega arith
@@ -60,6 +60,6 @@ shape_of-words c = c.loop-i.invariant.2.frame.same_length
 
 pub returns : goal.returns
 returns c = record {
-  grown = going_end (ap (map zone) (nothing_left _ _ _ _ c.loop-i-test.false)) c.loop-i.invariant.2 0 refl (omega (arith, c.loop-i.invariant.1));
+  grown = going_end (ap (map Some) (nothing_left _ _ _ _ c.loop-i-test.false)) c.loop-i.invariant.2 0 refl (omega (arith, c.loop-i.invariant.1));
   kept = c.loop-i.invariant.2.frame;
 }

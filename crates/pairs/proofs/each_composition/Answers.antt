@@ -54,7 +54,7 @@ pub write_zone-requires : goal.write_zone-requires
 write_zone-requires c =
     let turn = c.loop-j.invariant.1 in
     let e = rw (c.read_zone-z.ensures, c.read_zone-w.ensures) at c.compose_touching.ensures in
-    (omega arith, composed_ranged c.requires turn.going.frame _ c.loop-j-test.true (sym e ∙ c.in-Zone.is))
+    (omega arith, composed_ranged c.requires turn.going.frame _ c.loop-j-test.true (sym e ∙ c.in-Some.is))
 
 pub count_pair-requires : goal.count_pair-requires
 count_pair-requires c = let turn = c.loop-j.invariant.1 in pair_countable c.requires turn.going.frame _ c.loop-j-test.true turn
@@ -69,8 +69,8 @@ pub returns-in_default-grow_words : goal.returns-in_default-grow_words
 returns-in_default-grow_words c =
     let turn = c.loop-j.invariant.1 in
     let e = rw (c.read_zone-z.ensures, c.read_zone-w.ensures) at c.compose_touching.ensures in
-    let grown = rw (held c.in-Zone.v _ c.write_zone.ensures (omega arith), c.count_pair.ensures, c.in_default-grow_words.is) at c.grow_words.ensures.grown in record {
-      grown = pair_overflow c.requires turn.going.frame _ c.loop-j-test.true turn (sym e ∙ c.in-Zone.is) grown;
+    let grown = rw (held c.in-Some.v _ c.write_zone.ensures (omega arith), c.count_pair.ensures, c.in_default-grow_words.is) at c.grow_words.ensures.grown in record {
+      grown = pair_overflow c.requires turn.going.frame _ c.loop-j-test.true turn (sym e ∙ c.in-Some.is) grown;
       kept = kept_trans turn.going.frame c.grow_words.ensures.kept;
     }
 
@@ -81,8 +81,8 @@ pub loop-j-preserved : goal.loop-j-preserved
 loop-j-preserved c =
     let turn = c.loop-j.invariant.1 in
     let e = rw (c.read_zone-z.ensures, c.read_zone-w.ensures) at c.compose_touching.ensures in
-    let grown = rw (held c.in-Zone.v _ c.write_zone.ensures (omega arith), c.count_pair.ensures, c.in-Grew.is) at c.grow_words.ensures.grown in
-    (omega (arith, c.loop-j-test.true), composed_on c.requires turn.going.frame _ c.loop-j-test.true turn (sym e ∙ c.in-Zone.is) (touched c.touches.result c.touches.ensures c.if-not-touches.false) grown c.grow_words.ensures.kept)
+    let grown = rw (held c.in-Some.v _ c.write_zone.ensures (omega arith), c.count_pair.ensures, c.in-Grew.is) at c.grow_words.ensures.grown in
+    (omega (arith, c.loop-j-test.true), composed_on c.requires turn.going.frame _ c.loop-j-test.true turn (sym e ∙ c.in-Some.is) (touched c.touches.result c.touches.ensures c.if-not-touches.false) grown c.grow_words.ensures.kept)
 
 pub shape_of-words : goal.shape_of-words
 shape_of-words c = c.loop-j.invariant.1.going.frame.same_length

@@ -40,7 +40,7 @@ loop-run-preserved-in_default-mark_of c =
 pub write_zone-requires : goal.write_zone-requires
 write_zone-requires c =
     let f = (rw c.in-Found.is at c.next_run.ensures).0 in
-    (omega arith, mark_ranged c.args.mark c.in-Found.run' f (looks_ticks c.requires.0).small c.mark_of.ensures c.in-Zone.is)
+    (omega arith, mark_ranged c.args.mark c.in-Found.run' f (looks_ticks c.requires.0).small c.mark_of.ensures c.in-Some.is)
 
 pub grow_words-requires : goal.grow_words-requires
 grow_words-requires c = c.loop-run.invariant.stands
@@ -51,8 +51,8 @@ shape_of-work-in_default-grow_words c = c.grow_words.ensures.kept.same_length âˆ
 pub returns-in_default-grow_words : goal.returns-in_default-grow_words
 returns-in_default-grow_words c =
     let n = rw c.in-Found.is at c.next_run.ensures in
-    let over = rw (held c.in-Zone.z _ c.write_zone.ensures (omega arith), c.in_default-grow_words.is) at c.grow_words.ensures.grown in record {
-      value = spelt_over _ _ _ _ _ _ c.loop-run.invariant _ _ n c.mark_of.ensures _ (rw c.in-Zone.is over.0);
+    let over = rw (held c.in-Some.z _ c.write_zone.ensures (omega arith), c.in_default-grow_words.is) at c.grow_words.ensures.grown in record {
+      value = spelt_over _ _ _ _ _ _ c.loop-run.invariant _ _ n c.mark_of.ensures _ (rw c.in-Some.is over.0);
       kept = kept_trans c.loop-run.invariant.frame c.grow_words.ensures.kept;
     }
 
@@ -62,5 +62,5 @@ loop-run-smaller c = let n = rw c.in-Found.is at c.next_run.ensures in omega (ar
 pub loop-run-preserved : goal.loop-run-preserved
 loop-run-preserved c =
     let n = rw c.in-Found.is at c.next_run.ensures in
-    let built = rw (held c.in-Zone.z _ c.write_zone.ensures (omega arith), c.in-Grew.is) at c.grow_words.ensures.grown in
-    spelt_more _ _ _ _ _ _ c.loop-run.invariant _ _ n c.mark_of.ensures (rw c.in-Zone.is built) c.grow_words.ensures.kept
+    let built = rw (held c.in-Some.z _ c.write_zone.ensures (omega arith), c.in-Grew.is) at c.grow_words.ensures.grown in
+    spelt_more _ _ _ _ _ _ c.loop-run.invariant _ _ n c.mark_of.ensures (rw c.in-Some.is built) c.grow_words.ensures.kept
