@@ -1,5 +1,5 @@
 -- The lists that stand to and fro: the last list made, and the operand's zones still to come.
-use Rattle.std.specs.Prelude.{Some}
+use Rattle.std.specs.Prelude.{Some, Result}
 use mathlib.Core.Path.{◌≡◌, refl, sym, ap, subst, ◌∙◌}
 use mathlib.Core.Logic.{◌⊎◌, inl, inr}
 use mathlib.Core.List.{List, [], ◌∷◌, map, append-nil}
@@ -23,7 +23,7 @@ use Rattle.list.proofs.Slots.{kept_refl, kept_trans, kept_within, kept_apart, li
 use Rattle.pairs.specs.Operands.{Supply}
 use Rattle.pairs.specs.Row.{Zones}
 use Rattle.pairs.proofs.Zones.{one_there}
-use Rattle.operators.specs.declared.Listed.{Listed}
+use Rattle.list.specs.declared.Overflow.{Overflow}
 use Rattle.operators.specs.Listing.{Listing, BuiltAs}
 use Rattle.operators.proofs.Listings.{written_kept, written_alone, sound_one}
 use Rattle.absence.specs.Absence.{parts_each, without, without_each, absent}
@@ -172,7 +172,7 @@ module _ {ws : List ℤ} {base n : ℕ} (s : Source ws base n) (room : base + 23
       }
 
   -- the rule begins with it
-  pub everything_same : {vs : List ℤ} (r : Listed) → BuiltAs (whole us base n) vs base r × Kept base 2304 us vs → BuiltAs (absent from to (list_at ws base n)) vs base r × Kept base 2304 ws vs
+  pub everything_same : {vs : List ℤ} (r : Result ℕ Overflow) → BuiltAs (whole us base n) vs base r × Kept base 2304 us vs → BuiltAs (absent from to (list_at ws base n)) vs base r × Kept base 2304 ws vs
   unfolding absent
   everything_same {vs} r h = (
     subst (λ (b : Built). BuiltAs b vs base r) (λ i. without_each (list_there base n written (inl (omega arith)) s.few i) (alone i)) h.0,
