@@ -1,5 +1,5 @@
 -- What the loops have put together, as the answers of a round and of a star.
-use Rattle.std.specs.Prelude.{Some}
+use Rattle.std.specs.Prelude.{Some, Err}
 use mathlib.Core.Path.{◌≡◌, refl, sym, ap, subst, ◌∙◌}
 use mathlib.Core.Logic.{◌⊎◌, inl, inr}
 use mathlib.Core.List.{List, [], ◌∷◌}
@@ -12,14 +12,16 @@ use Rattle.list.specs.Insert.{Built, listed, insert_each}
 use Rattle.pairs.specs.declared.Operation.TheVariants.{Compose}
 use Rattle.pairs.specs.Counted.{Counted}
 use Rattle.pairs.specs.Pairs.{pairs, Touching, crossed}
-use Rattle.purse.specs.Purse.{Standing, Overflowed, Exceeding}
+use Rattle.purse.specs.declared.Stopped.{Stopped}
+use Rattle.purse.specs.declared.Stopped.TheVariants.{Overflow, Spent}
+use Rattle.purse.specs.Purse.{Standing, Overflowed, Exceeding, EvaluatedAs}
 use Rattle.star.specs.Star.{Value, value, overflow, begun, Rounds, Star, closed, diagonal_overflows, round_overflows, round}
 use Rattle.list.specs.Slots.{list_at, Free, Sound, Kept, Copied, Disjoint}
 use Rattle.pairs.specs.Operands.{Operands}
 use Rattle.operators.specs.Listing.{Workspace, Listing}
 use Rattle.growing.specs.declared.Growing.{Growing}
 use Rattle.growing.specs.Growth.{Alters, Unsurpassed, Stands, Begins, Growth}
-use Rattle.star.specs.Steps.{Changes, Ending}
+use Rattle.star.specs.Steps.{Changes, Ending, EndsAs}
 use Rattle.list.proofs.Slots.{list_at_copied, list_there, still_source, still_slot}
 use Rattle.growing.proofs.Loops.{alters_changed}
 use Rattle.growing.proofs.Going.{standing_stands, begun_pairs}
@@ -146,11 +148,11 @@ module _ {inner : List Zone} (diag : Zone) {told first second : ℕ} {us : List 
       }
 
 -- rounds that overflow, and rounds beyond those told, are the star's
-pub rounds_overflow : {inner : List Zone} {diag : Zone} {told left : ℕ} → Overflowed (Rounds inner inner) told left → Overflowed (Star inner diag) told left
+rounds_overflow : {inner : List Zone} {diag : Zone} {told left : ℕ} → Overflowed (Rounds inner inner) told left → Overflowed (Star inner diag) told left
 rounds_overflow b =
     let o = b.overflowing in record { overflowing = record { opened = o.opened; done = o.done; means = round_overflows o.means; within = o.within }; spends = b.spends }
 
-pub rounds_exceed : {inner : List Zone} (diag : Zone) {told : ℕ} → Exceeding (Rounds inner inner) told → Exceeding (Star inner diag) told
+rounds_exceed : {inner : List Zone} (diag : Zone) {told : ℕ} → Exceeding (Rounds inner inner) told → Exceeding (Star inner diag) told
 rounds_exceed {inner} diag {told} x = go x.whole x.means x.beyond
   where
     put : {r : ℕ} {F : List Zone} → Rounds inner inner (value F r) → told < r → (b : Built) → insert_each (Some diag ∷ []) F ≡ b → Exceeding (Star inner diag) told
@@ -160,3 +162,13 @@ rounds_exceed {inner} diag {told} x = go x.whole x.means x.beyond
     go : (v : Value) → Rounds inner inner v → told < begun v → Exceeding (Star inner diag) told
     go (value F r) t h = put t h (insert_each (Some diag ∷ []) F) refl
     go (overflow b f) t h = record { whole = overflow b f; means = round_overflows t; beyond = h }
+
+-- rounds that stop: what the star comes to, and that both slots are free
+module _ {ws us : List ℤ} {inner m target scratch : ℕ} (work : Workspace ws inner m target scratch) (c : Copied inner target (m * 6) ws us) (told : ℕ) (vs : List ℤ) where
+  pub stopped_star : (diag : Zone) (e : Stopped) → EndsAs (list_at us inner m) told target scratch vs (Err e) → EvaluatedAs (Star (list_at ws inner m) diag) told vs target (Err e)
+  stopped_star diag (Overflow left) o = rounds_overflow (begun_rounds work c (λ R. Overflowed R told left) o.0)
+  stopped_star diag Spent o = rounds_exceed diag (begun_rounds work c (λ R. Exceeding R told) o.0)
+
+  pub stopped_free : (e : Stopped) → EndsAs (list_at us inner m) told target scratch vs (Err e) → Free vs target × Free vs scratch
+  stopped_free (Overflow left) o = (o.1, o.2)
+  stopped_free Spent o = (o.1, o.2)
