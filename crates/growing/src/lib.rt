@@ -152,12 +152,7 @@ pub fn grow_apart(
 }
 
 // The same of a zone by itself, for which how late it starts is not asked.
-pub fn grow(
-    words: &mut [i32],
-    target: usize,
-    g: Growing,
-    z: Zone,
-) -> Result<Growing, Overflow>
+pub fn grow(words: &mut [i32], target: usize, g: Growing, z: Zone) -> Result<Growing, Overflow>
     requires { (Stands words.old target g) × (Ranged 1_000_000 z) }
     ensures grown { GrowsAs (Some z ∷ []) NoPair g words.old target words.new result }
     ensures kept { Kept target slot_words words.old words.new }

@@ -26,12 +26,7 @@ pub struct Composed {
 }
 
 // Puts the zone from `at` on.
-fn grow_from(
-    words: &mut [i32],
-    at: usize,
-    target: usize,
-    g: Growing,
-) -> Result<Growing, Overflow>
+fn grow_from(words: &mut [i32], at: usize, target: usize, g: Growing) -> Result<Growing, Overflow>
     requires { (at + zone_words ≤ length words.old) × (Stands words.old target g) }
     ensures grown { GrowsAs (Some (zone_at words.old at) ∷ []) NoPair g words.old target words.new result }
     ensures kept { Kept target slot_words words.old words.new }
