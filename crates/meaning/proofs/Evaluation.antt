@@ -183,25 +183,25 @@ module _ (Shows : ℕ → Level → ℕ → Type 0) {from to : ℕ} (order : fro
 -- ---- some value
 
 -- the relation holds of some value
-abbrev pub Some : (Value → Type 0) → Type 0
-Some P = (v : Value) × P v
+abbrev pub HasValue : (Value → Type 0) → Type 0
+HasValue P = (v : Value) × P v
 
-pub then_some : {operand : Value → Type 0} {next : List Zone → Value → Type 0} → Some operand
-    → ((A : List Zone) (r : ℕ) → operand (value A r) → Some (next A)) → Some (Then operand next)
+pub then_some : {operand : Value → Type 0} {next : List Zone → Value → Type 0} → HasValue operand
+    → ((A : List Zone) (r : ℕ) → operand (value A r) → HasValue (next A)) → HasValue (Then operand next)
 then_some {operand} {next} p f = go p.0 p.1
   where
-    go : (v : Value) → operand v → Some (Then operand next)
+    go : (v : Value) → operand v → HasValue (Then operand next)
     go (value A r) q = let n = f A r q in (with_rounds r n.0, goes q n.1 refl)
     go (overflow b g) q = (overflow b g, stops q)
 
-both_some : (build : List Zone → List Zone → Built) {left right : Value → Type 0} → Some left → Some right → Some (Both build left right)
+both_some : (build : List Zone → List Zone → Built) {left right : Value → Type 0} → HasValue left → HasValue right → HasValue (Both build left right)
 both_some build l r = then_some l (λ A m _. then_some r (λ B n _. (ended (build A B), refl)))
 
 module _ {Shows : ℕ → Level → ℕ → Type 0} {from to : ℕ} (finite : FiniteVariability Shows from to) (some : from < to) where
-  letter_some : (k : ℕ) (level : Level) → Some (Letter (Shows k level) from to)
+  letter_some : (k : ℕ) (level : Level) → HasValue (Letter (Shows k level) from to)
   letter_some k level = let r = finite.runs k level in (ended (insert_each (run_zones r.0) []), record { runs = r.0; maximal = r.1.runs; built = refl })
 
-  moments_some : (k : ℕ) (level : Level) → Some (Moments (Shows k level) (Shows k (other level)) from to)
+  moments_some : (k : ℕ) (level : Level) → HasValue (Moments (Shows k level) (Shows k (other level)) from to)
   moments_some k level = let e = finite.events k level in (ended (insert_each (moment_zones e.0) []), record { at = e.0; events = e.1; built = refl })
 
   -- An expression comes to some value: every repetition ends.
