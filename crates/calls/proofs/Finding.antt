@@ -8,7 +8,7 @@ use lib.ListN.{length}
 use Rattle.recording.specs.Reading.{channels, IsRecording, ReadingAs}
 use Rattle.runs.specs.Levels.{Shows}
 use Rattle.recording.specs.declared.Dimensions.{Dimensions}
-use Rattle.recording.specs.declared.Reading.TheVariants.{Recorded}
+use Rattle.std.specs.Prelude.{Ok}
 use Rattle.recording.proofs.Refusals.{read_numbers, read_end}
 use Rattle.expression.specs.Expression.{Expression}
 use Rattle.expression.specs.Refusal.{Accepted, DrillRefused}
@@ -35,7 +35,7 @@ untouched {bytes} {text} {left} {answer} {work} {o} e c =
 
 -- ---- on a recording that was read
 
-module _ (bytes : List ℕ) (size : Dimensions) (read : ReadingAs largest bytes (Recorded size)) where
+module _ (bytes : List ℕ) (size : Dimensions) (read : ReadingAs largest bytes (Ok size)) where
   pub was_read : IsRecording bytes size
   was_read = read.1
 
@@ -44,7 +44,7 @@ module _ (bytes : List ℕ) (size : Dimensions) (read : ReadingAs largest bytes 
 
   module _ (text : List ℕ) (left : ℕ) (answer work : List ℤ) where
     none : Without bytes text left (length answer) (length work) recordings
-    none = recording_call bytes text left (length answer) (length work) (Recorded size) read
+    none = recording_call bytes text left (length answer) (length work) (Ok size) read
 
     -- A drill that is refused.
     drill_refused : (o : Outcome) → leaves o ≡ both → 0 < (returned o).number → DrillRefused text size.channels (returned o).number

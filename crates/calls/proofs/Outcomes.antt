@@ -8,8 +8,10 @@ use native.Mathlib.Decide.{dec_le}
 use native.Mathlib.Omega.{arith}
 use lib.ListN.{length}
 use Rattle.zone.specs.declared.Zone.{Zone}
-use Rattle.recording.specs.declared.Reading.{Reading}
-use Rattle.recording.specs.declared.Reading.TheVariants.{WrongLength, WrongHead, WrongChange, Recorded}
+use Rattle.recording.specs.declared.Dimensions.{Dimensions}
+use Rattle.recording.specs.declared.Fault.{Fault}
+use Rattle.recording.specs.declared.Fault.TheVariants.{Length, Head, Change}
+use Rattle.std.specs.Prelude.{Result, Ok, Err}
 use Rattle.recording.specs.Reading.{ticks, channels, ReadingAs}
 use Rattle.recording.proofs.Refusals.{reading_exists}
 use Rattle.recording.proofs.Rounding.{tick_range}
@@ -59,19 +61,19 @@ module _ (bytes text : List ℕ) (left answer work : ℕ) where
 
   -- ---- the recording
 
-  abbrev pub RecordingCall : Reading → Type 0
-  RecordingCall WrongLength = CallWithin bytes text left answer work RecordingLength
-  RecordingCall WrongHead = CallWithin bytes text left answer work RecordingHead
-  RecordingCall WrongChange = CallWithin bytes text left answer work RecordingChange
-  RecordingCall (Recorded size) = Without recordings
+  abbrev pub RecordingCall : Result Dimensions Fault → Type 0
+  RecordingCall (Err Length) = CallWithin bytes text left answer work RecordingLength
+  RecordingCall (Err Head) = CallWithin bytes text left answer work RecordingHead
+  RecordingCall (Err Change) = CallWithin bytes text left answer work RecordingChange
+  RecordingCall (Ok size) = Without recordings
 
   -- What reading the recording answers decides the call, or rules out 1 to 3.
-  pub recording_call : (a : Reading) → ReadingAs largest bytes a → RecordingCall a
-  recording_call WrongLength r = refused_at [] _ RecordingLength refl none r.holds
-  recording_call WrongHead r = refused_at (RecordingLength ∷ []) _ RecordingHead refl (r.first 1 (omega arith) also none) r.holds
-  recording_call WrongChange r =
+  pub recording_call : (a : Result Dimensions Fault) → ReadingAs largest bytes a → RecordingCall a
+  recording_call (Err Length) r = refused_at [] _ RecordingLength refl none r.holds
+  recording_call (Err Head) r = refused_at (RecordingLength ∷ []) _ RecordingHead refl (r.first 1 (omega arith) also none) r.holds
+  recording_call (Err Change) r =
       refused_at (RecordingLength ∷ RecordingHead ∷ []) _ RecordingChange refl (r.first 1 (omega arith) also r.first 2 (omega arith) also none) r.holds
-  recording_call (Recorded size) r = r.0 1 also r.0 2 also r.0 3 also none
+  recording_call (Ok size) r = r.0 1 also r.0 2 also r.0 3 also none
 
   -- ---- the drill
 
@@ -183,12 +185,12 @@ module _ (bytes text : List ℕ) (left answer work : ℕ) where
         | no h ↦ (WorkShort, work_call (drill_none n a) (omega arith), λ e. absurd (omega arith), inl refl)
       ]
 
-      read : (a : Reading) → ReadingAs largest bytes a → Some
-      read WrongLength r = (RecordingLength, recording_call WrongLength r, λ e. absurd (omega arith), inl refl)
-      read WrongHead r = (RecordingHead, recording_call WrongHead r, λ e. absurd (omega arith), inl refl)
-      read WrongChange r = (RecordingChange, recording_call WrongChange r, λ e. absurd (omega arith), inl refl)
-      read (Recorded size) r =
-          let n = recording_call (Recorded size) r in
+      read : (a : Result Dimensions Fault) → ReadingAs largest bytes a → Some
+      read (Err Length) r = (RecordingLength, recording_call (Err Length) r, λ e. absurd (omega arith), inl refl)
+      read (Err Head) r = (RecordingHead, recording_call (Err Head) r, λ e. absurd (omega arith), inl refl)
+      read (Err Change) r = (RecordingChange, recording_call (Err Change) r, λ e. absurd (omega arith), inl refl)
+      read (Ok size) r =
+          let n = recording_call (Ok size) r in
           let h = r.1.headed in
           let t = tick_range h.long h.short in
           ⊎_elim (λ a. given n t.0 t.1 a.0 a.1)

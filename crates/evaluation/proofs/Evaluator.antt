@@ -19,7 +19,6 @@ use Rattle.expression.specs.Stored.{node_at}
 use Rattle.expression.specs.Planted.{Planted}
 use Rattle.expression.proofs.Laws.{Operands, operands}
 use Rattle.meaning.specs.Lists.{Value, ended, Then, join_list, applied, Evaluates}
-use Rattle.primaries.specs.Windows.{Looks}
 use Rattle.primaries.specs.declared.Window.{Window}
 use Rattle.values.specs.Values.{OperandAt}
 use Rattle.purse.specs.declared.Evaluated.{Evaluated}
@@ -28,7 +27,7 @@ use Rattle.purse.specs.Purse.{Standing, EvaluatedAs}
 use Rattle.meaning.proofs.Evaluation.{One, HasValue, then_some, evaluates_well, evaluates_unique, evaluates_exists}
 use Rattle.evaluation.proofs.Operands.{then_goes, then_stops}
 use Rattle.meaning.proofs.Finite.{recording_finite}
-use Rattle.primaries.proofs.Windows.{looks_ticks}
+use Rattle.primaries.proofs.Windows.{window_ticks}
 
 -- what node i says of its expression, as the code finds the node
 pub node_is : {ns : List ℕ} {channels i d : ℕ} {e : Expression} {n : Node} (t : Node) → n ≡ node_at ns i → n ≡ t → Planted ns channels i d e → Operands ns channels (d - 1) e t
@@ -75,24 +74,24 @@ module _ {d : ℕ} (some : 0 < d) (base : ℕ) where
 
 -- ---- values of operands
 
-module _ {bytes : List ℕ} {window : Window} (looks : Looks bytes window) where
+module _ (window : Window) where
   -- the expression comes to the value in this window
   abbrev pub Comes : Expression → Value → Type 0
-  Comes e v = Evaluates (Shows bytes) window.from window.to e v
+  Comes e v = Evaluates (Shows window.recording.bytes.now) window.from window.to e v
 
   -- to one value, and to some value
   one : (e : Expression) → One (Comes e)
-  one e = evaluates_unique (Shows bytes) window.from window.to e
+  one e = evaluates_unique (Shows window.recording.bytes.now) window.from window.to e
 
   some : (e : Expression) → HasValue (Comes e)
-  some e = evaluates_exists (recording_finite bytes window.from window.to) looks.some e
+  some e = evaluates_exists (recording_finite window.recording.bytes.now window.from window.to) window.some e
 
   module _ (f : Expression) {told : ℕ} {ws : List ℤ} {base n left : ℕ} (s : Standing (Comes f) told ws base n left) where
     -- the zones of its list may be combined ..
     operand_sound : Sound (list_at ws base n)
     operand_sound =
         subst Sound (sym s.holds.zones)
-        (λ z m. proper_within (omega arith) (looks_ticks looks).small ((evaluates_well (Shows bytes) (looks_ticks looks).forward f s.rounds s.means).proper z m))
+        (λ z m. proper_within (omega arith) (window_ticks window).small ((evaluates_well (Shows window.recording.bytes.now) (window_ticks window).forward f s.rounds s.means).proper z m))
 
     -- .. as the operators with one operand ask for it, and those with two for the right one ..
     pub only_operand : base + 3 * slot_words ≤ length ws → OperandAt ws base n

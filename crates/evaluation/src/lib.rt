@@ -10,7 +10,6 @@ ghost use Rattle.runs.specs.Levels.{Shows};
 ghost use Rattle.expression.specs.Expression.{Expression};
 ghost use Rattle.expression.specs.Planted.{Planted};
 ghost use Rattle.meaning.specs.Lists.{Evaluates};
-ghost use Rattle.primaries.specs.Windows.{Looks};
 ghost use Rattle.purse.specs.Purse.{EvaluatedAs};
 ghost use Rattle.evaluation.specs.Evaluating.{Rooted};
 
@@ -23,8 +22,7 @@ use purse::Evaluated;
 // slot, a right one in the slot after it, with the rounds that the left one leaves. Words outside the depth + 2 slots from `base` on stay as
 // they were. Of these slots the words behind the list are free, and all of them where there is no list.
 pub fn evaluate(
-    bytes: &[u8],
-    window: Window,
+    window: &Window<'_>,
     nodes: &[u32],
     node: u32,
     work: &mut [i32],
@@ -32,25 +30,25 @@ pub fn evaluate(
     depth: usize,
     told: u64,
 ) -> Evaluated
-    requires { (Looks bytes.now window) × (Rooted nodes.now window.size.channels node depth) × (depth ≤ 16) × (base + (depth + 2) * slot_words ≤ length work.old) }
-    ensures value { (e : Expression) → Planted nodes.now window.size.channels node depth e → EvaluatedAs (Evaluates (Shows bytes.now) window.from window.to e) told work.new base result }
+    requires { (Rooted nodes.now window.now.recording.size.channels node depth) × (depth ≤ 16) × (base + (depth + 2) * slot_words ≤ length work.old) }
+    ensures value { (e : Expression) → Planted nodes.now window.now.recording.size.channels node depth e → EvaluatedAs (Evaluates (Shows window.now.recording.bytes.now) window.now.from window.now.to e) told work.new base result }
     ensures kept { Kept base ((depth + 2) * slot_words) work.old work.new }
 {
     let rest = depth - 1;
     match expression::node_at(nodes, node) {
         Node::Epsilon => primaries::point(work, base, window.from, window.to, told),
         Node::Literal(sign, channel) => {
-            primaries::literal(bytes, window, channel as u8, sign, work, base, told)
+            primaries::literal(window, channel as u8, sign, work, base, told)
         }
         Node::Applied(op, operand) => {
-            let only = evaluate(bytes, window, nodes, operand, work, base, rest, told);
+            let only = evaluate(window, nodes, operand, work, base, rest, told);
             let Evaluated::Listed { count: n, left } = only else {
                 return only;
             };
             values::apply(op, work, base, n, window.from, window.to, left)
         }
         Node::Infix(op, left, right) => {
-            let first = evaluate(bytes, window, nodes, left, work, base, rest, told);
+            let first = evaluate(window, nodes, left, work, base, rest, told);
             let Evaluated::Listed {
                 count: n,
                 left: after,
@@ -59,7 +57,7 @@ pub fn evaluate(
                 return first;
             };
             let next = base + SLOT_WORDS;
-            let second = evaluate(bytes, window, nodes, right, work, next, rest, after);
+            let second = evaluate(window, nodes, right, work, next, rest, after);
             let Evaluated::Listed {
                 count: m,
                 left: end,

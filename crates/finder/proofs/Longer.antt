@@ -7,8 +7,10 @@ use Prim.Native.Nat.{ℕ, ◌<◌}
 use native.Mathlib.Omega.{arith}
 use lib.IntN.{ℤ}
 use lib.ListN.{length}
-use Rattle.recording.specs.declared.Reading.{Reading}
-use Rattle.recording.specs.declared.Reading.TheVariants.{WrongLength, WrongHead, WrongChange, Recorded}
+use Rattle.recording.specs.declared.Dimensions.{Dimensions}
+use Rattle.recording.specs.declared.Fault.{Fault}
+use Rattle.recording.specs.declared.Fault.TheVariants.{Length, Head, Change}
+use Rattle.std.specs.Prelude.{Result, Ok, Err}
 use Rattle.recording.specs.Reading.{ReadingAs}
 use Rattle.recording.proofs.Refusals.{reading_exists, refused_length as refused-recording}
 use Rattle.parser.proofs.Parses.{refused_length}
@@ -38,22 +40,22 @@ long_recordings bytes text bytes' text' answer work l m =
       cause = RecordingLength;
       keeps = refl;
       unstopped = λ e. omega arith;
-      one = λ left. recording_call bytes text left answer work WrongLength (refused-recording (λ s. omega (arith, s.within)));
-      other = λ left. recording_call bytes' text' left answer work WrongLength (refused-recording (λ s. omega (arith, s.within)));
+      one = λ left. recording_call bytes text left answer work (Err Length) (refused-recording (λ s. omega (arith, s.within)));
+      other = λ left. recording_call bytes' text' left answer work (Err Length) (refused-recording (λ s. omega (arith, s.within)));
     }
 
 -- both drills are: a recording that is refused is refused with any drill, one that is read with none that is too long
 long_drills : (bytes text text' : List ℕ) (answer work : ℕ) → 255 < length text → 255 < length text' → Together bytes text bytes text' answer work
 long_drills bytes text text' answer work l m = let a = reading_exists largest bytes in go a.0 a.1
   where
-    go : (a : Reading) → ReadingAs largest bytes a → Together bytes text bytes text' answer work
-    go WrongLength r = record { cause = RecordingLength; keeps = refl; unstopped = λ e. omega arith; one = λ left. recording_call bytes text left answer work WrongLength r; other = λ left. recording_call bytes text' left answer work WrongLength r }
-    go WrongHead r = record { cause = RecordingHead; keeps = refl; unstopped = λ e. omega arith; one = λ left. recording_call bytes text left answer work WrongHead r; other = λ left. recording_call bytes text' left answer work WrongHead r }
-    go WrongChange r = record { cause = RecordingChange; keeps = refl; unstopped = λ e. omega arith; one = λ left. recording_call bytes text left answer work WrongChange r; other = λ left. recording_call bytes text' left answer work WrongChange r }
-    go (Recorded size) r = record { cause = DrillLength; keeps = refl; unstopped = λ e. omega arith; one = wrong text l; other = wrong text' m }
+    go : (a : Result Dimensions Fault) → ReadingAs largest bytes a → Together bytes text bytes text' answer work
+    go (Err Length) r = record { cause = RecordingLength; keeps = refl; unstopped = λ e. omega arith; one = λ left. recording_call bytes text left answer work (Err Length) r; other = λ left. recording_call bytes text' left answer work (Err Length) r }
+    go (Err Head) r = record { cause = RecordingHead; keeps = refl; unstopped = λ e. omega arith; one = λ left. recording_call bytes text left answer work (Err Head) r; other = λ left. recording_call bytes text' left answer work (Err Head) r }
+    go (Err Change) r = record { cause = RecordingChange; keeps = refl; unstopped = λ e. omega arith; one = λ left. recording_call bytes text left answer work (Err Change) r; other = λ left. recording_call bytes text' left answer work (Err Change) r }
+    go (Ok size) r = record { cause = DrillLength; keeps = refl; unstopped = λ e. omega arith; one = wrong text l; other = wrong text' m }
       where
         wrong : (t : List ℕ) → 255 < length t → (left : ℕ) → CallWithin bytes t left answer work DrillLength
-        wrong t h left = drill_call bytes t left answer work (recording_call bytes t left answer work (Recorded size) r) DrillLength (omega arith) (refused_length (inr h))
+        wrong t h left = drill_call bytes t left answer work (recording_call bytes t left answer work (Ok size) r) DrillLength (omega arith) (refused_length (inr h))
 
 -- A call on the one is a call on the other.
 module _ {bytes text bytes' text' : List ℕ} (answer work answer' work' : List ℤ) {o : Outcome} (t : Together bytes text bytes' text' (length answer) (length work)) where

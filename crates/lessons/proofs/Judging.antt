@@ -3,7 +3,8 @@ use mathlib.Core.Path.{refl}
 use mathlib.Core.List.{List, [], ◌∷◌}
 use Prim.Native.Nat.{ℕ, ◌<◌}
 use native.Mathlib.Omega.{arith}
-use Rattle.recording.specs.declared.Reading.TheVariants.{WrongLength, WrongHead, WrongChange, Recorded}
+use Rattle.recording.specs.declared.Fault.TheVariants.{Length, Head, Change}
+use Rattle.std.specs.Prelude.{Ok, Err}
 use Rattle.recording.specs.declared.Dimensions.{Dimensions}
 use Rattle.recording.specs.Reading.{RecordingCause, ReadingAs}
 use Rattle.outcome.specs.declared.Outcome.{Outcome}
@@ -29,10 +30,10 @@ module _ (bytes text : List ℕ) where
   not_sheet n (sheet_form c) = n c
 
   -- a recording that is refused
-  pub wrong_length : ReadingAs largest bytes WrongLength → First lesson_causes (LessonCause bytes text) RecordingLength
+  pub wrong_length : ReadingAs largest bytes (Err Length) → First lesson_causes (LessonCause bytes text) RecordingLength
   wrong_length r = record { earlier = []; later = _; place = refl; holds = recording_length r.holds; none = none_of none }
 
-  pub wrong_head : ReadingAs largest bytes WrongHead → First lesson_causes (LessonCause bytes text) RecordingHead
+  pub wrong_head : ReadingAs largest bytes (Err Head) → First lesson_causes (LessonCause bytes text) RecordingHead
   wrong_head r =
       record {
         earlier = RecordingLength ∷ [];
@@ -42,7 +43,7 @@ module _ (bytes text : List ℕ) where
         none = none_of (not_length (r.first 1 (omega arith)) also none);
       }
 
-  pub wrong_change : ReadingAs largest bytes WrongChange → First lesson_causes (LessonCause bytes text) RecordingChange
+  pub wrong_change : ReadingAs largest bytes (Err Change) → First lesson_causes (LessonCause bytes text) RecordingChange
   wrong_change r =
       record {
         earlier = RecordingLength ∷ RecordingHead ∷ [];
@@ -53,7 +54,7 @@ module _ (bytes text : List ℕ) where
       }
 
   -- one that is read
-  module _ {size : Dimensions} (r : ReadingAs largest bytes (Recorded size)) where
+  module _ {size : Dimensions} (r : ReadingAs largest bytes (Ok size)) where
     recordings : NoneOf (LessonCause bytes text) (RecordingLength ∷ RecordingHead ∷ RecordingChange ∷ [])
     recordings = not_length (r.0 1) also not_head (r.0 2) also not_change (r.0 3) also none
 

@@ -10,8 +10,10 @@ use Rattle.outcome.specs.declared.Outcome.{Outcome}
 use Rattle.outcome.specs.Outcome.{returned}
 use Rattle.outcome.proofs.Numbers.{same_number}
 use Rattle.calls.specs.Causes.{First}
-use Rattle.recording.specs.declared.Reading.{Reading}
-use Rattle.recording.specs.declared.Reading.TheVariants.{WrongLength, WrongHead, WrongChange, Recorded}
+use Rattle.recording.specs.declared.Dimensions.{Dimensions}
+use Rattle.recording.specs.declared.Fault.{Fault}
+use Rattle.recording.specs.declared.Fault.TheVariants.{Length, Head, Change}
+use Rattle.std.specs.Prelude.{Result, Ok, Err}
 use Rattle.recording.specs.Reading.{ReadingAs}
 use Rattle.recording.proofs.Refusals.{reading_exists, refused_length}
 use Rattle.calls.specs.Outcome.{largest}
@@ -39,12 +41,12 @@ pub some_lesson : (bytes text : List ℕ) (answer work : List ℤ)
     → (number : ℕ) × (printed : List ℕ) × (answer' : List ℤ) × (work' : List ℤ) × LessonAs bytes text answer work number printed answer' work'
 some_lesson bytes text answer work = let a = reading_exists largest bytes in read a.0 a.1
   where
-    read : (a : Reading) → ReadingAs largest bytes a
+    read : (a : Result Dimensions Fault) → ReadingAs largest bytes a
         → (number : ℕ) × (printed : List ℕ) × (answer' : List ℤ) × (work' : List ℤ) × LessonAs bytes text answer work number printed answer' work'
-    read WrongLength r = (1, _, _, _, turned_back (wrong_length bytes text r))
-    read WrongHead r = (2, _, _, _, turned_back (wrong_head bytes text r))
-    read WrongChange r = (3, _, _, _, turned_back (wrong_change bytes text r))
-    read (Recorded size) r =
+    read (Err Length) r = (1, _, _, _, turned_back (wrong_length bytes text r))
+    read (Err Head) r = (2, _, _, _, turned_back (wrong_head bytes text r))
+    read (Err Change) r = (3, _, _, _, turned_back (wrong_change bytes text r))
+    read (Ok size) r =
         ⊎_elim (λ l. let s = results_exist bytes answer work l.0 in (0, _, s.1, s.2, held (none_wrong bytes text r (λ u. u l.0 l.1)) l.1 s.3))
         (λ u. (12, _, _, _, turned_back (wrong_sheet bytes text r u))) (lined_or_not text)
 

@@ -28,7 +28,7 @@ use Rattle.runs.specs.Search.{other}
 use Rattle.runs.specs.Runs.{Runs}
 use Rattle.runs.specs.Events.{Events}
 use Rattle.runs.specs.declared.Run.{Run}
-use Rattle.recording.specs.declared.Reading.TheVariants.{Recorded}
+use Rattle.std.specs.Prelude.{Ok}
 use Rattle.runs.proofs.Events.{ends_before, shows_events}
 use Rattle.runs.proofs.Examples.{R as example}
 use Rattle.expression.specs.Expression.{Expression, literal, join, unary, depth}
@@ -87,7 +87,7 @@ gives {text} {e} {L} {r} form pass evaluates answer work long roomy =
 
     -- told its own rounds it is not stopped
     none : Without R text r (length answer) (length work) (recordings ++ drills)
-    none = drill_none R text r (length answer) (length work) (recording_call R text r (length answer) (length work) (Recorded _) example.read) taken
+    none = drill_none R text r (length answer) (length work) (recording_call R text r (length answer) (length work) (Ok _) example.read) taken
 
     call : FindAs R text answer work (Finished (length L) r) (fronted (words L) answer) (cleared work)
     call =

@@ -21,11 +21,10 @@ use Rattle.growing.proofs.Going.{begun_stands, grown_stands}
 use Rattle.list.proofs.Puts.{holds_same}
 use Rattle.list.proofs.Slots.{kept_refl, kept_trans}
 use Rattle.recording.specs.Reading.{ticks}
-use Rattle.recording.proofs.Refusals.{read_end}
 use Rattle.runs.specs.declared.Level.{Level}
 use Rattle.runs.specs.declared.Run.{Run}
 use Rattle.runs.specs.declared.Cursor.{Cursor}
-use Rattle.runs.specs.declared.Next.TheVariants.{Found, None}
+use Rattle.std.specs.Prelude.{Some, None}
 use Rattle.runs.specs.Levels.{Shows}
 use Rattle.runs.specs.Search.{other}
 use Rattle.runs.specs.Runs.{Runs, FirstRun}
@@ -37,11 +36,9 @@ use Rattle.meaning.specs.Lists.{Value, overflow, ended, Letter, moment_zones, Mo
 use Rattle.purse.specs.Purse.{Standing, Overflowed, EvaluatedAs}
 use Rattle.purse.specs.declared.Evaluated.{Evaluated}
 use Rattle.values.proofs.Standings.{evaluated_map}
-use Rattle.primaries.specs.declared.Window.{Window}
-use Rattle.primaries.specs.Windows.{Looks}
 use Rattle.primaries.specs.declared.Mark.{Mark}
 use Rattle.primaries.specs.declared.Mark.TheVariants.{Inside, End}
-use Rattle.primaries.specs.Spelling.{widened, mark_of, Spelling}
+use Rattle.primaries.specs.Spelling.{mark_of, Spelling}
 
 -- ---- the loop
 
@@ -77,7 +74,7 @@ module _ (bytes : List ℕ) (channel : ℕ) (level : Level) (mark : Mark) (from 
           holds = holds_same ws base g.count s.stands.slot.few;
         }
 
-    module _ (x : Run) (onward : Cursor) (n : NextRun bytes channel level from to cursor (Found x onward)) where
+    module _ (x : Run) (onward : Cursor) (n : NextRun bytes channel level from to cursor (Some (x, onward))) where
       -- the marks of more runs
       on : (zs : List Run) → insert_each (map (mark_of mark to) (s.runs ++ zs)) [] ≡ insert_each (map (mark_of mark to) zs) (list_at ws base g.count)
       on zs =
@@ -175,14 +172,13 @@ spelling_moments bytes channel level from to s =
       built = s.built ∙ ap ended (ends_built (min (to + 1) (ticks bytes)) s.runs []);
     }
 
-module _ {bytes : List ℕ} {window : Window} (looks : Looks bytes window) (channel : ℕ) (level : Level) (told : ℕ) (ws : List ℤ) (base : ℕ) (r : Evaluated) where
+module _ (bytes : List ℕ) (channel : ℕ) (level : Level) (from to told : ℕ) (ws : List ℤ) (base : ℕ) (r : Evaluated) where
   -- a letter
-  pub spells_letter : EvaluatedAs (Spelling Inside (Shows bytes channel level) window.from window.to) told ws base r
-      → EvaluatedAs (Letter (Shows bytes channel level) window.from window.to) told ws base r
+  pub spells_letter : EvaluatedAs (Spelling Inside (Shows bytes channel level) from to) told ws base r
+      → EvaluatedAs (Letter (Shows bytes channel level) from to) told ws base r
   spells_letter s = evaluated_map _ _ told ws base (λ v p. spelling_letter p) r s
 
   -- the events where the channel leaves the level
-  pub spells_moments : EvaluatedAs (Spelling End (Shows bytes channel level) (widened window).from (widened window).to) told ws base r
-      → EvaluatedAs (Moments (Shows bytes channel level) (Shows bytes channel (other level)) window.from window.to) told ws base r
-  spells_moments s =
-      evaluated_map _ _ told ws base (λ v p. spelling_moments bytes channel level window.from window.to (rw (read_end looks.read) at p)) r s
+  pub spells_moments : EvaluatedAs (Spelling End (Shows bytes channel level) (from - 1) (min (to + 1) (ticks bytes))) told ws base r
+      → EvaluatedAs (Moments (Shows bytes channel level) (Shows bytes channel (other level)) from to) told ws base r
+  spells_moments s = evaluated_map _ _ told ws base (λ v p. spelling_moments bytes channel level from to p) r s

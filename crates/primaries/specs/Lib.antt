@@ -1,3 +1,2 @@
 -- What the contracts of `primaries` cite: definitions alone.
-pub mod Windows
 pub mod Spelling

@@ -1,5 +1,5 @@
 -- For private contracts alone: the list that is put together from the runs of a channel.
-use Rattle.std.specs.Prelude.{◌≡◌, cond, List, [], map, ℕ, ◌+◌, ◌-◌, min, ltb, Option, Some, None}
+use Rattle.std.specs.Prelude.{◌≡◌, cond, List, [], map, ℕ, ltb, Option, Some, None}
 use Rattle.zone.specs.declared.Zone.{Zone}
 use Rattle.zone.specs.Zone.{run, diagonal}
 use Rattle.list.specs.Insert.{insert_each}
@@ -8,11 +8,6 @@ use Rattle.runs.specs.Runs.{Runs}
 use Rattle.meaning.specs.Lists.{Value, ended}
 use Rattle.primaries.specs.declared.Mark.{Mark}
 use Rattle.primaries.specs.declared.Mark.TheVariants.{Inside, End}
-use Rattle.primaries.specs.declared.Window.{Window}
-
--- the window with the ticks beside it, where the recording has them
-abbrev pub widened : Window → Window
-widened w = record { size = w.size; from = w.from - 1; to = min (w.to + 1) w.size.ticks }
 
 -- what is put for a run: the zone of the stretches in it, or that of the moment when it ends, if it does before tick `to`
 abbrev pub mark_of : Mark → ℕ → Run → Option Zone

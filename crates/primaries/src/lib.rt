@@ -3,34 +3,67 @@
 // The crate `meaning` says which list each has; `purse` how a slot holds it. None has a round: those told are left.
 #![tactic(auto)]
 
-ghost use Rattle.std.specs.Prelude.{◌≡◌, [], ◌∷◌, ◌+◌, ◌-◌, ◌≤◌, min, length, Some};
+ghost use Rattle.std.specs.Prelude.{◌≡◌, [], ◌∷◌, ◌+◌, ◌-◌, ◌≤◌, ◌<◌, min, length, Some};
 ghost use Rattle.limit.specs.Limit.{most_ticks};
 ghost use Rattle.zone.specs.Zone.{diagonal};
 ghost use Rattle.list.specs.Insert.{insert_each};
 ghost use Rattle.list.specs.Slots.{slot_words, Kept};
+ghost use Rattle.recording.specs.Reading.{ticks};
 ghost use Rattle.runs.specs.Levels.{Shows};
 ghost use Rattle.runs.specs.Search.{other};
 ghost use Rattle.expression.specs.Expression.{literal};
 ghost use Rattle.meaning.specs.Lists.{ended, Letter, Moments, Evaluates};
 ghost use Rattle.purse.specs.Purse.{EvaluatedAs};
 ghost use Rattle.values.specs.Values.{Ticks};
-ghost use Rattle.primaries.specs.Windows.{Looks};
-ghost use Rattle.primaries.specs.Spelling.{widened, mark_of, Spelling};
+ghost use Rattle.primaries.specs.Spelling.{mark_of, Spelling};
 
 use expression::Sign;
 use growing::Grown;
 use purse::Evaluated;
-use recording::Dimensions;
-use runs::{Cursor, Level, Next, Run};
+use recording::Recording;
+use runs::{Cursor, Level, Run};
 use words::ZONE_WORDS;
 use zone::Zone;
 
 // The ticks from..to of a recording that was read: where a drill is evaluated.
 #[derive(Clone, Copy)]
-pub struct Window {
-    pub size: Dimensions,
+pub struct Window<'a> {
+    pub recording: Recording<'a>,
     pub from: u32,
     pub to: u32,
+    pub ghost some: { from < to },
+    pub ghost within: { to ≤ ticks recording.bytes.now },
+}
+
+impl<'a> Window<'a> {
+    // All ticks of the recording.
+    #[tactic(auto, using(recording::proofs::Refusals::read_ticks, recording::proofs::Refusals::read_end))]
+    pub fn whole(recording: &Recording<'a>) -> Window<'a>
+        ensures bytes { result.recording.bytes.now ≡ recording.now.bytes.now }
+        ensures size { result.recording.size ≡ recording.now.size }
+        ensures from { result.from ≡ 0 }
+        ensures to { result.to ≡ recording.now.size.ticks }
+    {
+        Window {
+            recording: *recording,
+            from: 0,
+            to: recording.size.ticks,
+        }
+    }
+
+    // The window with the ticks beside it, where the recording has them: an event at its edge sees both.
+    #[tactic(auto, using(recording::proofs::Refusals::read_ticks, recording::proofs::Refusals::read_end))]
+    fn around(&self) -> Window<'a>
+        ensures bytes { result.recording.bytes.now ≡ self.now.recording.bytes.now }
+        ensures from { result.from ≡ self.now.from - 1 }
+        ensures to { result.to ≡ min (self.now.to + 1) (ticks self.now.recording.bytes.now) }
+    {
+        Window {
+            recording: self.recording,
+            from: self.from.saturating_sub(1),
+            to: (self.to + 1).min(self.recording.size.ticks),
+        }
+    }
 }
 
 // `_`: the diagonal of ticks from..to, in the slot at `base`.
@@ -77,8 +110,7 @@ fn mark_of(mark: Mark, run: Run, to: u32) -> Option<Zone>
 
 // The maximal runs of the channel at the level, put in rising time as their marks, in the slot at `base`.
 fn spell(
-    bytes: &[u8],
-    window: Window,
+    window: &Window<'_>,
     channel: u8,
     level: Level,
     mark: Mark,
@@ -86,27 +118,20 @@ fn spell(
     base: usize,
     told: u64,
 ) -> Evaluated
-    requires { (Looks bytes.now window) × (base + slot_words ≤ length work.old) }
-    ensures value { EvaluatedAs (Spelling mark (Shows bytes.now channel level) window.from window.to) told work.new base result }
+    requires { base + slot_words ≤ length work.old }
+    ensures value { EvaluatedAs (Spelling mark (Shows window.now.recording.bytes.now channel level) window.now.from window.now.to) told work.new base result }
     ensures kept { Kept base slot_words work.old work.new }
 {
     let mut cursor = Cursor { change: 0 };
     let mut grown = growing::nothing();
-    loop {
-        let Next::Found(run, onward) = runs::next_run(
-            bytes,
-            window.size,
-            channel,
-            level,
-            window.from,
-            window.to,
-            cursor,
-        ) else {
-            return Evaluated::Listed {
-                count: grown.count,
-                left: told,
-            };
-        };
+    while let Some((run, onward)) = runs::next_run(
+        &window.recording,
+        channel,
+        level,
+        window.from,
+        window.to,
+        cursor,
+    ) {
         cursor = onward;
         let Some(z) = mark_of(mark, run, window.to) else {
             continue;
@@ -118,102 +143,61 @@ fn spell(
         };
         grown = next;
     }
-}
-
-fn previous(tick: u32) -> u32
-    ensures { result ≡ tick - 1 }
-{
-    if tick == 0 { 0 } else { tick - 1 }
-}
-
-fn next_up_to(tick: u32, last: u32) -> u32
-    ensures { result ≡ min (tick + 1) last }
-{
-    if tick < last { tick + 1 } else { last }
-}
-
-// The window with the ticks beside it, where the recording has them: an event at its edge sees both.
-fn around(window: Window) -> Window
-    ensures { result ≡ widened window }
-{
-    let size = window.size;
-    Window {
-        size,
-        from: previous(window.from),
-        to: next_up_to(window.to, size.ticks),
+    Evaluated::Listed {
+        count: grown.count,
+        left: told,
     }
 }
 
 // A letter or `!`: the maximal runs of its channel at the level that it asks for, in the slot at `base`.
 fn letter(
-    bytes: &[u8],
-    window: Window,
+    window: &Window<'_>,
     channel: u8,
     level: Level,
     work: &mut [i32],
     base: usize,
     told: u64,
 ) -> Evaluated
-    requires { (Looks bytes.now window) × (base + slot_words ≤ length work.old) }
-    ensures value { EvaluatedAs (Letter (Shows bytes.now channel level) window.from window.to) told work.new base result }
+    requires { base + slot_words ≤ length work.old }
+    ensures value { EvaluatedAs (Letter (Shows window.now.recording.bytes.now channel level) window.now.from window.now.to) told work.new base result }
     ensures kept { Kept base slot_words work.old work.new }
 {
-    spell(
-        bytes,
-        window,
-        channel,
-        level,
-        Mark::Inside,
-        work,
-        base,
-        told,
-    )
+    spell(window, channel, level, Mark::Inside, work, base, told)
 }
 
 // `+` or `-` and a letter: the moments when its channel leaves the level, in the slot at `base`. They are the ends of the runs.
 fn moments(
-    bytes: &[u8],
-    window: Window,
+    window: &Window<'_>,
     channel: u8,
     was: Level,
     work: &mut [i32],
     base: usize,
     told: u64,
 ) -> Evaluated
-    requires { (Looks bytes.now window) × (base + slot_words ≤ length work.old) }
-    ensures value { EvaluatedAs (Moments (Shows bytes.now channel was) (Shows bytes.now channel (other was)) window.from window.to) told work.new base result }
+    requires { base + slot_words ≤ length work.old }
+    ensures value { EvaluatedAs (Moments (Shows window.now.recording.bytes.now channel was) (Shows window.now.recording.bytes.now channel (other was)) window.now.from window.now.to) told work.new base result }
     ensures kept { Kept base slot_words work.old work.new }
 {
-    spell(
-        bytes,
-        around(window),
-        channel,
-        was,
-        Mark::End,
-        work,
-        base,
-        told,
-    )
+    spell(&window.around(), channel, was, Mark::End, work, base, told)
 }
 
 // A letter with its sign, in the slot at `base`.
 pub fn literal(
-    bytes: &[u8],
-    window: Window,
+    window: &Window<'_>,
     channel: u8,
     sign: Sign,
     work: &mut [i32],
     base: usize,
     told: u64,
 ) -> Evaluated
-    requires { (Looks bytes.now window) × (base + slot_words ≤ length work.old) }
-    ensures value { EvaluatedAs (Evaluates (Shows bytes.now) window.from window.to (literal sign channel)) told work.new base result }
+    requires { base + slot_words ≤ length work.old }
+    ensures value { EvaluatedAs (Evaluates (Shows window.now.recording.bytes.now) window.now.from window.now.to (literal sign channel)) told work.new base result }
     ensures kept { Kept base slot_words work.old work.new }
 {
     match sign {
-        Sign::High => letter(bytes, window, channel, Level::High, work, base, told),
-        Sign::Low => letter(bytes, window, channel, Level::Low, work, base, told),
-        Sign::Rise => moments(bytes, window, channel, Level::Low, work, base, told),
-        Sign::Fall => moments(bytes, window, channel, Level::High, work, base, told),
+        Sign::High => letter(window, channel, Level::High, work, base, told),
+        Sign::Low => letter(window, channel, Level::Low, work, base, told),
+        Sign::Rise => moments(window, channel, Level::Low, work, base, told),
+        Sign::Fall => moments(window, channel, Level::High, work, base, told),
     }
 }

@@ -6,17 +6,18 @@ use mathlib.Core.Logic.{◌↔◌}
 use Prim.Native.Nat.{ℕ, zero, suc, ◌+◌, ◌-◌, ◌*◌, ◌%◌, ◌^◌, ◌/◌, ◌≤◌, ◌<◌}
 use native.Mathlib.Decide.{ℕ_discrete}
 use native.Mathlib.Nat.{div-eq_of_lt, le-div_iff_mul-le, one-mul}
-use native.Mathlib.Numerals.{add-one}
 use native.Mathlib.Omega.{arith}
 use borrow.Author.Tests.{ltb-true, ltb-false, lt-ltb, leb-true, leb-false, le-leb, lt-leb, eqb-true, eq-eqb, ne_eqb, not-true, not-false}
 use lib.Dec.{leb, ltb, eqb}
 use lib.Pow.{shl_exact}
+use Rattle.std.proofs.Common.{pow_pos}
 use lib.ListN.{length}
 use Rattle.recording.specs.Reading.{Sized, Headed, Changed, AllChanged, RecordingCause, wrong_length, wrong_head, wrong_change, RecordingRefused, IsRecording, ReadingAs, dimensions, has_mark, head_mark, change_mark, duration, channels, changes, time, levels, byte_at, ticks}
 use Rattle.recording.specs.Tests.{sized, headed, changed, all_changed}
 use Rattle.recording.specs.declared.Dimensions.{Dimensions}
-use Rattle.recording.specs.declared.Reading.{Reading}
-use Rattle.recording.specs.declared.Reading.TheVariants.{WrongLength, WrongHead, WrongChange, Recorded}
+use Rattle.recording.specs.declared.Fault.{Fault}
+use Rattle.recording.specs.declared.Fault.TheVariants.{Length, Head, Change}
+use Rattle.std.specs.Prelude.{Result, Ok, Err}
 use Rattle.recording.proofs.Rounding.{tick_range}
 
 -- a flag of the code, negated, and the test that it is
@@ -36,6 +37,10 @@ within n m h = go (ltb n m) refl
 
 pub one_bit_each : (k : ℕ) → k ≤ 16 → (1 * 2 ^ k) % 4294967296 ≡ 2 ^ k
 one_bit_each k h = shl_exact 1 k 32 (omega arith) (omega arith) ∙ one-mul (2 ^ k)
+
+-- the bits from bit k on are zero exactly below 2 to the k
+pub quiet_below : (n k : ℕ) → eqb (n / 2 ^ k) 0 ≡ ltb n (2 ^ k)
+quiet_below n k = sym (within n (2 ^ k) (pow_pos k))
 
 -- THE TESTS SAY WHAT THE CAUSES SAY
 
@@ -74,6 +79,10 @@ sized_is largest bytes =
       λ s. t.1 (s.some, (s.within, s.whole)),
     )
 
+-- what a right length and a right head leave room for
+pub sized_room : (largest : ℕ) (bytes : List ℕ) → sized largest bytes ≡ true → 8 ≤ length bytes
+sized_room largest bytes e = let s = (sized_is largest bytes).0 e in omega (arith, s.some, s.whole)
+
 mark_is : (b : Bool) → Tests b (b ≡ true)
 mark_is b = (λ e. e, λ e. e)
 
@@ -86,6 +95,9 @@ headed_is bytes =
       λ e. let h = t.0 e in record { mark = h.0; long = h.1.0.0; short = h.1.0.1; one = h.1.1.0.0; few = h.1.1.0.1; blank = h.1.1.1 },
       λ s. t.1 (s.mark, ((s.long, s.short), ((s.one, s.few), s.blank))),
     )
+
+pub headed_small : (bytes : List ℕ) → headed bytes ≡ true → (duration bytes ≤ 10000000) × (channels bytes ≤ 16)
+headed_small bytes e = let h = (headed_is bytes).0 e in (h.short, h.few)
 
 changed_is : (bytes : List ℕ) (j : ℕ) → Tests (changed bytes j) (Changed bytes j)
 unfolding changed
@@ -135,40 +147,50 @@ two_bytes a b c d h k =
 abbrev pub in_time : List ℕ → ℕ → Bool
 in_time bytes j = leb j 0 || ltb (time bytes j) (duration bytes)
 
--- a wrong change among the first n, and one change more that is right unless it comes too late
-pub one_wrong : (bytes : List ℕ) (n j : ℕ) → j < n → changed bytes (j + 1) ≡ false → all_changed bytes n ≡ false
-one_wrong bytes n j h e = off (all_is bytes n) (λ a. no_way e (changed_is bytes (j + 1)) (a (j + 1) (omega arith) (omega arith)))
+-- a wrong change among the first n
+pub one_wrong : (bytes : List ℕ) (n j : ℕ) → 0 < j → j ≤ n → changed bytes j ≡ false → all_changed bytes n ≡ false
+one_wrong bytes n j a b e = off (all_is bytes n) (λ h. no_way e (changed_is bytes j) (h j a b))
 
--- .. and a last one that comes too late
+-- a last one that comes too late
 pub late : (bytes : List ℕ) (n : ℕ) → 0 < n → duration bytes ≤ time bytes n → all_changed bytes n ≡ false
 late bytes n some h = off (all_is bytes n) (λ a. omega (arith, (a n some (omega arith)).below, h))
 
+-- one change more that is right unless it comes too late
 pub one_more : (bytes : List ℕ) (j : ℕ) → all_changed bytes j ≡ in_time bytes j
-    → changed bytes (j + 1) ≡ ltb (time bytes (j + 1)) (duration bytes) → all_changed bytes (j + 1) ≡ in_time bytes (j + 1)
+    → changed bytes (suc j) ≡ ltb (time bytes (suc j)) (duration bytes) → all_changed bytes (suc j) ≡ in_time bytes (suc j)
 unfolding all_changed
-one_more bytes j a e = rw (add-one j) (rw (a, e', lt-leb (suc j) 0 (omega arith)) (go (ltb (time bytes (suc j)) (duration bytes)) refl))
+one_more bytes j a e = rw (a, e, lt-leb (suc j) 0 (omega arith)) (go (ltb (time bytes (suc j)) (duration bytes)) refl)
   where
-    e' : changed bytes (suc j) ≡ ltb (time bytes (suc j)) (duration bytes)
-    e' = rw (add-one j) at e
-
     go : (b : Bool) → ltb (time bytes (suc j)) (duration bytes) ≡ b → (in_time bytes j && b) ≡ b
     go false q = and-false (in_time bytes j)
     go true q =
-        let h = (changed_is bytes (suc j)).0 (e' ∙ q) in
+        let h = (changed_is bytes (suc j)).0 (e ∙ q) in
         let before : suc j - 1 ≡ j = omega arith in
         let above : 0 < j → time bytes j < time bytes (suc j) = λ k. rw before at (h.above (omega arith)) in
         rw ((above_is 0 j (time bytes j) (duration bytes)).1 (λ k. omega (arith, h.below, above k)))
 
+-- the same at a number that is no successor
+pub one_further : (bytes : List ℕ) (j : ℕ) → 0 < j → all_changed bytes (j - 1) ≡ in_time bytes (j - 1) → changed bytes j ≡ ltb (time bytes j) (duration bytes)
+    → all_changed bytes (j + 1 - 1) ≡ in_time bytes (j + 1 - 1)
+one_further bytes j h a e =
+    let next : suc (j - 1) ≡ j = omega arith in
+    let same : j + 1 - 1 ≡ j = omega arith in
+    rw same (subst (λ (i : ℕ). all_changed bytes i ≡ in_time bytes i) next (one_more bytes (j - 1) a (subst (λ (i : ℕ). changed bytes i ≡ ltb (time bytes i) (duration bytes)) (sym next) e)))
+
+-- where the last change comes in time all do
+pub last_in_time : (bytes : List ℕ) (n : ℕ) → 0 < n → all_changed bytes n ≡ in_time bytes n → time bytes n < duration bytes → all_changed bytes n ≡ true
+last_in_time bytes n some a h = a ∙ rw (lt-leb n 0 some, lt-ltb (time bytes n) (duration bytes) h)
+
 -- THE ANSWER
 
 -- what reading answers, computed: each cause over the whole input before the next
-unfoldable pub reading : ℕ → List ℕ → Reading
+unfoldable pub reading : ℕ → List ℕ → Result Dimensions Fault
 reading largest bytes =
     cond (sized largest bytes)
     (cond (headed bytes)
     (cond (all_changed bytes (changes bytes))
-    (Recorded (dimensions bytes)) WrongChange) WrongHead)
-    WrongLength
+    (Ok (dimensions bytes)) (Err Change)) (Err Head))
+    (Err Length)
 
 -- the cause of number m fails, if what that number asks is met
 met : {largest : ℕ} {bytes : List ℕ} (m : ℕ) → (m ≡ 1 → Sized largest bytes) → (m ≡ 2 → Headed bytes) → (m ≡ 3 → AllChanged bytes) → ¬ RecordingCause largest bytes m
@@ -187,7 +209,7 @@ module _ (largest : ℕ) (bytes : List ℕ) where
       (all_changed bytes (changes bytes)) (all_is bytes (changes bytes))
     where
       go : (s : Bool) → Tests s (Sized largest bytes) → (h : Bool) → Tests h (Headed bytes) → (a : Bool) → Tests a (AllChanged bytes)
-          → ReadingAs largest bytes (cond s (cond h (cond a (Recorded (dimensions bytes)) WrongChange) WrongHead) WrongLength)
+          → ReadingAs largest bytes (cond s (cond h (cond a (Ok (dimensions bytes)) (Err Change)) (Err Head)) (Err Length))
       go true s true h true a = (
         λ m. met m (λ _. s.0 refl) (λ _. h.0 refl) (λ _. a.0 refl),
         record { some = (s.0 refl).some; whole = (s.0 refl).whole; headed = h.0 refl; changed = a.0 refl; measured = refl },
@@ -198,25 +220,43 @@ module _ (largest : ℕ) (bytes : List ℕ) where
           record { holds = wrong_head (no_way refl h); first = λ m l. met m (λ _. s.0 refl) (λ e. absurd (omega arith)) (λ e. absurd (omega arith)) }
       go false s h _ a _ = refused_length (no_way refl s)
 
-  answer : (a : Reading) → ReadingAs largest bytes a → reading largest bytes ≡ a
+  answer : (a : Result Dimensions Fault) → ReadingAs largest bytes a → reading largest bytes ≡ a
   unfolding reading
-  answer WrongLength r = rw (off (sized_is largest bytes) (λ s. met 1 (λ _. s) (λ e. absurd (omega arith)) (λ e. absurd (omega arith)) r.holds))
-  answer WrongHead r =
+  answer (Err Length) r = rw (off (sized_is largest bytes) (λ s. met 1 (λ _. s) (λ e. absurd (omega arith)) (λ e. absurd (omega arith)) r.holds))
+  answer (Err Head) r =
       rw (on (sized_is largest bytes) (λ x. r.first 1 (omega arith) (wrong_length x)), off (headed_is bytes) (λ h. met 2 (λ e. absurd (omega arith)) (λ _. h) (λ e. absurd (omega arith)) r.holds))
-  answer WrongChange r =
+  answer (Err Change) r =
       rw (on (sized_is largest bytes) (λ x. r.first 1 (omega arith) (wrong_length x)), on (headed_is bytes) (λ x. r.first 2 (omega arith) (wrong_head x)), off (all_is bytes (changes bytes)) (λ a. met 3 (λ e. absurd (omega arith)) (λ e. absurd (omega arith)) (λ _. a) r.holds))
-  answer (Recorded size) r =
+  answer (Ok size) r =
       rw (on (sized_is largest bytes) (λ x. r.0 1 (wrong_length x)), (headed_is bytes).1 r.1.headed, (all_is bytes (changes bytes)).1 r.1.changed, r.1.measured)
 
   -- an answer is the computed one exactly if it is due
-  pub exactly : (a : Reading) → (reading largest bytes ≡ a) ↔ ReadingAs largest bytes a
+  pub exactly : (a : Result Dimensions Fault) → (reading largest bytes ≡ a) ↔ ReadingAs largest bytes a
   exactly a = (λ e. subst (ReadingAs largest bytes) e given, answer a)
 
+  -- the answer at the first test that fails, and where none does
+  pub wrong_sized : sized largest bytes ≡ false → ReadingAs largest bytes (Err Length)
+  unfolding reading
+  wrong_sized s = (exactly (Err Length)).0 (rw s)
+
+  pub wrong_headed : sized largest bytes ≡ true → headed bytes ≡ false → ReadingAs largest bytes (Err Head)
+  unfolding reading
+  wrong_headed s h = (exactly (Err Head)).0 (rw (s, h))
+
+  pub wrong_changed : sized largest bytes ≡ true → headed bytes ≡ true → all_changed bytes (changes bytes) ≡ false → ReadingAs largest bytes (Err Change)
+  unfolding reading
+  wrong_changed s h a = (exactly (Err Change)).0 (rw (s, h, a))
+
+  pub nothing_wrong : {t : ℕ} → sized largest bytes ≡ true → headed bytes ≡ true → all_changed bytes (changes bytes) ≡ true → t ≡ ticks bytes
+      → ReadingAs largest bytes (Ok (record { ticks = t; channels = channels bytes; changes = changes bytes }))
+  unfolding reading
+  nothing_wrong s h a t = (exactly (Ok _)).0 (rw (s, h, a, t))
+
   -- all bytes have one answer
-  pub reading_exists : (a : Reading) × ReadingAs largest bytes a
+  pub reading_exists : (a : Result Dimensions Fault) × ReadingAs largest bytes a
   reading_exists = (reading largest bytes, given)
 
-  pub reading_unique : (a b : Reading) → ReadingAs largest bytes a → ReadingAs largest bytes b → a ≡ b
+  pub reading_unique : (a b : Result Dimensions Fault) → ReadingAs largest bytes a → ReadingAs largest bytes b → a ≡ b
   reading_unique a b p q = sym (answer a p) ∙ answer b q
 
 -- what is known of bytes that were read as a recording

@@ -1,8 +1,8 @@
 -- The bytes of a recording: its records, what makes one wrong, and what reading answers.
-use Rattle.std.specs.Prelude.{◌≡◌, Bool, true, cond, ◌&&◌, List, [], ◌∷◌, ℕ, ◌+◌, ◌-◌, ◌*◌, ◌/◌, ◌%◌, ◌^◌, ◌≤◌, ◌<◌, eqb, length, get_or}
+use Rattle.std.specs.Prelude.{◌≡◌, Bool, true, cond, ◌&&◌, List, [], ◌∷◌, ℕ, ◌+◌, ◌-◌, ◌*◌, ◌/◌, ◌%◌, ◌^◌, ◌≤◌, ◌<◌, eqb, length, get_or, Result, Ok, Err}
 use Rattle.recording.specs.declared.Dimensions.{Dimensions}
-use Rattle.recording.specs.declared.Reading.{Reading}
-use Rattle.recording.specs.declared.Reading.TheVariants.{WrongLength, WrongHead, WrongChange, Recorded}
+use Rattle.recording.specs.declared.Fault.{Fault}
+use Rattle.recording.specs.declared.Fault.TheVariants.{Length, Head, Change}
 
 -- of tick n and the next one, the even one
 abbrev pub even_of : ℕ → ℕ
@@ -109,16 +109,14 @@ pub record IsRecording (bytes : List ℕ) (size : Dimensions) : Type 0 where
   pub measured : size ≡ dimensions bytes
 
 -- document 01's number of each answer, 0 being that of a recording that is read
-abbrev pub reading_number : Reading → ℕ
-reading_number WrongLength = 1
-reading_number WrongHead = 2
-reading_number WrongChange = 3
-reading_number (Recorded size) = 0
+abbrev pub reading_number : Result Dimensions Fault → ℕ
+reading_number (Err Length) = 1
+reading_number (Err Head) = 2
+reading_number (Err Change) = 3
+reading_number (Ok size) = 0
 
 -- The answer for bytes of which there may be so many. Refused: the number is that of the first cause. Read: no cause holds, and the dimensions
 -- are those of the bytes.
-abbrev pub ReadingAs : (largest : ℕ) (bytes : List ℕ) → Reading → Type 0
-ReadingAs largest bytes WrongLength = RecordingRefused largest bytes (reading_number WrongLength)
-ReadingAs largest bytes WrongHead = RecordingRefused largest bytes (reading_number WrongHead)
-ReadingAs largest bytes WrongChange = RecordingRefused largest bytes (reading_number WrongChange)
-ReadingAs largest bytes (Recorded size) = ((n : ℕ) → ¬ RecordingCause largest bytes n) × IsRecording bytes size
+abbrev pub ReadingAs : (largest : ℕ) (bytes : List ℕ) → Result Dimensions Fault → Type 0
+ReadingAs largest bytes (Err fault) = RecordingRefused largest bytes (reading_number (Err fault))
+ReadingAs largest bytes (Ok size) = ((n : ℕ) → ¬ RecordingCause largest bytes n) × IsRecording bytes size

@@ -1,9 +1,9 @@
 // Switch recordings. `read` judges any bytes: they are turned back, by the table's number, or they are a recording of so many
-// ticks, channels and changes. Of a recording that was read, `begins` and `levels_of` tell where a change holds from, and what
+// ticks, channels and changes. Of a `Recording`, which was read, `begins` and `levels` tell where a change holds from, and what
 // it sets.
 #![tactic(auto)]
 
-ghost use Rattle.std.specs.Prelude.{◌≡◌, ◌&&◌, ◌||◌, ◌+◌, ◌-◌, ◌*◌, ◌^◌, ◌≤◌, ◌<◌, leb, ltb, length};
+ghost use Rattle.std.specs.Prelude.{◌≡◌, ◌&&◌, ◌||◌, ◌+◌, ◌-◌, ◌*◌, ◌^◌, ◌≤◌, ◌<◌, leb, ltb, length, MatchResult, Ok, Err};
 ghost use Rattle.recording.specs.Reading.{even_of, tick as tick_of, byte_at, le16 as le16At, le32 as le32At, has_mark, duration as durationOf, channels as channelsOf, time as timeOf, levels as levelsOf, IsRecording, ReadingAs};
 ghost use Rattle.recording.specs.Changes.{begins as beginsAt};
 ghost use Rattle.recording.specs.Tests.{sized as sizedBy, headed as headedBy, changed as changedBy, all_changed};
@@ -16,13 +16,20 @@ pub struct Dimensions {
     pub changes: usize,
 }
 
-// What reading answers.
+// What is wrong with bytes that are no recording.
+#[derive(Clone, Copy, PartialEq, Eq)]
+pub enum Fault {
+    Length,
+    Head,
+    Change,
+}
+
+// Bytes that were read as a recording, with its dimensions.
 #[derive(Clone, Copy)]
-pub enum Reading {
-    WrongLength,
-    WrongHead,
-    WrongChange,
-    Recorded(Dimensions),
+pub struct Recording<'a> {
+    pub bytes: &'a [u8],
+    pub size: Dimensions,
+    pub ghost recorded: { IsRecording bytes.now size },
 }
 
 // The two-byte marks of the records.
@@ -30,28 +37,22 @@ const HEAD: [u8; 2] = [0x44, 0x52];
 
 const CHANGE: [u8; 2] = [0x43, 0x48];
 
-fn wide(x: u8) -> u32
-    ensures { (result ≡ x) × (result < 256) }
-{
-    x as u32
-}
-
 // The 2 bytes at a place, low byte first.
+#[tactic(auto, unfolding(crate::specs::Reading::le16))]
 fn le16(bytes: &[u8], at: usize) -> u32
     requires { at + 1 < length bytes.now }
     ensures { (result ≡ le16At bytes.now at) × (result < 65536) × (byte_at bytes.now at < 256) }
 {
-    let low = wide(bytes[at]);
-    let high = wide(bytes[at + 1]);
-    low + 256 * high
+    u32::from(u16::from_le_bytes([bytes[at], bytes[at + 1]]))
 }
 
 // The 4 bytes at a place, low byte first.
+#[tactic(auto, unfolding(crate::specs::Reading::le16, crate::specs::Reading::le32))]
 fn le32(bytes: &[u8], at: usize) -> u32
     requires { at + 3 < length bytes.now }
     ensures { result ≡ le32At bytes.now at }
 {
-    le16(bytes, at) + 65536 * le16(bytes, at + 2)
+    u32::from_le_bytes([bytes[at], bytes[at + 1], bytes[at + 2], bytes[at + 3]])
 }
 
 // Of tick n and the next one, the even one.
@@ -63,6 +64,7 @@ fn even_of(n: u32) -> u32
 }
 
 // The tick of a time in milliseconds. A time halfway between two ticks goes to the even one.
+#[tactic(auto, unfolding(crate::specs::Reading::tick))]
 fn tick(m: u32) -> u32
     requires { m ≤ 10000000 }
     ensures { result ≡ tick_of m }
@@ -73,7 +75,8 @@ fn tick(m: u32) -> u32
     (m + 5) / 10
 }
 
-// Record j starts with the mark.
+// Record j starts with the mark. Both are compared as one number.
+#[tactic(auto, using(crate::proofs::Refusals::two_bytes), unfolding(crate::specs::Reading::has_mark, crate::specs::Reading::le16))]
 fn has_mark(bytes: &[u8], j: usize, mark: [u8; 2]) -> bool
     requires { 8 * j + 1 < length bytes.now }
     ensures { result ≡ has_mark bytes.now j mark }
@@ -81,40 +84,24 @@ fn has_mark(bytes: &[u8], j: usize, mark: [u8; 2]) -> bool
     le16(bytes, 8 * j) == le16(&mark, 0)
 }
 
-fn between(x: u32, low: u32, high: u32) -> bool
-    ensures { result ≡ (leb low x && leb x high) }
-{
-    low <= x && x <= high
-}
-
 // Nothing is wrong with the length.
+#[tactic(auto, unfolding(crate::specs::Tests::sized))]
 fn sized(bytes: &[u8], largest: usize) -> bool
     ensures { result ≡ sizedBy largest bytes.now }
 {
-    if bytes.len() == 0 {
-        return false;
-    }
-    if largest < bytes.len() {
-        return false;
-    }
-    bytes.len() % 8 == 0
+    !bytes.is_empty() && bytes.len() <= largest && bytes.len() % 8 == 0
 }
 
 // Nothing is wrong with the head.
+#[tactic(auto, unfolding(crate::specs::Tests::headed))]
 fn headed(bytes: &[u8]) -> bool
     requires { 8 ≤ length bytes.now }
     ensures { result ≡ headedBy bytes.now }
 {
-    if !has_mark(bytes, 0, HEAD) {
-        return false;
-    }
-    if !between(le32(bytes, 2), 10, 10_000_000) {
-        return false;
-    }
-    if !between(wide(bytes[6]), 1, 16) {
-        return false;
-    }
-    bytes[7] == 0
+    has_mark(bytes, 0, HEAD)
+        && (10..=10_000_000).contains(&le32(bytes, 2))
+        && (1..=16).contains(&bytes[6])
+        && bytes[7] == 0
 }
 
 // The first change may come at any time, a later one only after the change before it.
@@ -122,27 +109,20 @@ fn rises(bytes: &[u8], j: usize) -> bool
     requires { 8 * j + 7 < length bytes.now }
     ensures { result ≡ (leb j 1 || ltb (timeOf bytes.now (j - 1)) (timeOf bytes.now j)) }
 {
-    if j <= 1 {
-        return true;
-    }
-    le32(bytes, 8 * (j - 1) + 2) < le32(bytes, 8 * j + 2)
+    j <= 1 || le32(bytes, 8 * (j - 1) + 2) < le32(bytes, 8 * j + 2)
 }
 
 // Nothing is wrong with change j, unless it comes too late. Its levels are below `bits`, one bit for each channel.
+#[tactic(auto, using(crate::proofs::Refusals::quiet_below), unfolding(crate::specs::Tests::changed))]
 fn changed(bytes: &[u8], j: usize, bits: u32) -> bool
     requires { (8 * j + 7 < length bytes.now) × (bits ≡ 2 ^ channelsOf bytes.now) }
     ensures { changedBy bytes.now j ≡ (result && ltb (timeOf bytes.now j) (durationOf bytes.now)) }
 {
-    if !has_mark(bytes, j, CHANGE) {
-        return false;
-    }
-    if !rises(bytes, j) {
-        return false;
-    }
-    le16(bytes, 8 * j + 6) < bits
+    has_mark(bytes, j, CHANGE) && rises(bytes, j) && le16(bytes, 8 * j + 6) < bits
 }
 
 // Nothing is wrong with the changes 1 to `changes`.
+#[tactic(auto, using(crate::proofs::Refusals::late, crate::proofs::Refusals::one_further, crate::proofs::Refusals::last_in_time), unfolding(crate::specs::Tests::all_changed))]
 fn all_changed(bytes: &[u8], changes: usize, duration: u32, bits: u32) -> bool
     requires { (8 * changes + 7 < length bytes.now) × (duration ≡ durationOf bytes.now) × (bits ≡ 2 ^ channelsOf bytes.now) }
     ensures { result ≡ all_changed bytes.now changes }
@@ -154,9 +134,7 @@ fn all_changed(bytes: &[u8], changes: usize, duration: u32, bits: u32) -> bool
     if duration <= le32(bytes, 8 * changes + 2) {
         return false;
     }
-    let mut j = 0;
-    while j < changes {
-        j += 1;
+    for j in 1..changes + 1 {
         if !changed(bytes, j, bits) {
             return false;
         }
@@ -165,46 +143,50 @@ fn all_changed(bytes: &[u8], changes: usize, duration: u32, bits: u32) -> bool
 }
 
 // Reads a recording of at most `largest` bytes. The length is judged first, then the head, then the changes.
-pub fn read(bytes: &[u8], largest: usize) -> Reading
-    ensures { ReadingAs largest bytes.now result }
+#[tactic(auto, using(crate::proofs::Refusals::sized_room, crate::proofs::Refusals::headed_small, crate::proofs::Refusals::one_bit_each, crate::proofs::Refusals::wrong_sized))]
+pub fn read(bytes: &[u8], largest: usize) -> Result<Recording<'_>, Fault>
+    ensures { MatchResult result (λ r. (r.bytes.now ≡ bytes.now) × ReadingAs largest bytes.now (Ok r.size)) (λ e. ReadingAs largest bytes.now (Err e)) }
 {
     if !sized(bytes, largest) {
-        return Reading::WrongLength;
+        return Err(Fault::Length);
     }
     if !headed(bytes) {
-        return Reading::WrongHead;
+        return Err(Fault::Head);
     }
     let changes = bytes.len() / 8 - 1;
     let duration = le32(bytes, 2);
     let channels = bytes[6];
     if !all_changed(bytes, changes, duration, 1 << channels) {
-        return Reading::WrongChange;
+        return Err(Fault::Change);
     }
-    Reading::Recorded(Dimensions {
+    let size = Dimensions {
         ticks: tick(duration),
         channels,
         changes,
-    })
+    };
+    Ok(Recording { bytes, size })
 }
 
-// The tick from which change j holds: 0 for j = 0, and the end of the recording after the last change.
-pub fn begins(bytes: &[u8], size: Dimensions, j: usize) -> u32
-    requires { IsRecording bytes.now size }
-    ensures { result ≡ beginsAt bytes.now j }
-{
-    if j == 0 {
-        return 0;
+impl<'a> Recording<'a> {
+    // The tick from which change j holds: 0 for j = 0, and the end of the recording after the last change.
+    #[tactic(auto, using(crate::proofs::Refusals::read_room, crate::proofs::Refusals::read_time, crate::proofs::Changes::begins_change, crate::proofs::Changes::begins_end), unfolding(crate::specs::Changes::begins))]
+    pub fn begins(&self, j: usize) -> u32
+        ensures { result ≡ beginsAt self.now.bytes.now j }
+    {
+        if j == 0 {
+            return 0;
+        }
+        if self.size.changes < j {
+            return self.size.ticks;
+        }
+        tick(le32(self.bytes, 8 * j + 2))
     }
-    if size.changes < j {
-        return size.ticks;
-    }
-    tick(le32(bytes, 8 * j + 2))
-}
 
-// The levels that change j sets, a bit for each channel.
-pub fn levels_of(bytes: &[u8], j: usize) -> u32
-    requires { 8 * j + 7 < length bytes.now }
-    ensures { (result ≡ levelsOf bytes.now j) × (result < 65536) }
-{
-    le16(bytes, 8 * j + 6)
+    // The levels that change j sets, a bit for each channel.
+    pub fn levels(&self, j: usize) -> u32
+        requires { j ≤ self.now.size.changes }
+        ensures { (result ≡ levelsOf self.now.bytes.now j) × (result < 65536) }
+    {
+        le16(self.bytes, 8 * j + 6)
+    }
 }

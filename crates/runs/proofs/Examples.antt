@@ -9,7 +9,8 @@ use Rattle.recording.specs.Tests.{sized, headed, changed, all_changed}
 use Rattle.runs.specs.Search.{leaves_at}
 use Rattle.runs.specs.declared.Level.TheVariants.{High, Low}
 use Rattle.recording.specs.declared.Dimensions.{Dimensions}
-use Rattle.recording.specs.declared.Reading.TheVariants.{WrongChange, Recorded}
+use Rattle.recording.specs.declared.Fault.TheVariants.{Change}
+use Rattle.std.specs.Prelude.{Ok, Err}
 use Rattle.runs.specs.declared.Run.{Run}
 use Rattle.recording.proofs.Refusals.{reading, exactly}
 use Rattle.runs.proofs.Levels.{shown}
@@ -35,14 +36,14 @@ measured bytes d = record { ticks = d; channels = 1; changes = changes bytes }
 
 -- the bytes are read as a recording of d ticks, and these are the runs of channel a, high and low
 pub record Example (bytes : List ℕ) (d : ℕ) (highs lows : List Run) : Type 0 where
-  pub read : ReadingAs 32768 bytes (Recorded (measured bytes d))
+  pub read : ReadingAs 32768 bytes (Ok (measured bytes d))
   pub highs_are : Runs (Shows bytes 0 High) 0 d highs
   pub lows_are : Runs (Shows bytes 0 Low) 0 d lows
 
-computed : (bytes : List ℕ) (d : ℕ) → reading 32768 bytes ≡ Recorded (measured bytes d)
+computed : (bytes : List ℕ) (d : ℕ) → reading 32768 bytes ≡ Ok (measured bytes d)
     → Example bytes d (runs_of (shown bytes 0 High) 0 d) (runs_of (shown bytes 0 Low) 0 d)
 computed bytes d e = record {
-  read = (exactly 32768 bytes (Recorded (measured bytes d))).0 e;
+  read = (exactly 32768 bytes (Ok (measured bytes d))).0 e;
   highs_are = shows_runs bytes 0 High 0 d;
   lows_are = shows_runs bytes 0 Low 0 d;
 }
@@ -99,4 +100,4 @@ first_at_15 = computed _ 10 refl
 -- a second head is a wrong change
 pub second_head : RecordingRefused 32768 (head 100 ++ head 100) 3
 unfolding reading sized headed all_changed changed has_mark le32 le16
-second_head = (exactly 32768 (head 100 ++ head 100) WrongChange).0 refl
+second_head = (exactly 32768 (head 100 ++ head 100) (Err Change)).0 refl

@@ -11,7 +11,7 @@ use Rattle.runs.specs.Scan.{NextRun, position}
 use Rattle.runs.specs.declared.Level.{Level}
 use Rattle.runs.specs.declared.Run.{Run}
 use Rattle.runs.specs.declared.Cursor.{Cursor}
-use Rattle.runs.specs.declared.Next.TheVariants.{Found, None}
+use Rattle.std.specs.Prelude.{Some, None}
 use Rattle.runs.proofs.Levels.{shown, shown_is}
 use Rattle.runs.proofs.Runs.{Held, Scanned, scanned_none, scanned_more, scanned_all, runs_of_lem, runs_of, covered}
 
@@ -26,7 +26,7 @@ module _ (bytes : List ℕ) (channel : ℕ) (level : Level) (from to : ℕ) wher
   taken_none = subst (λ (k : ℕ). Scanned (Shows bytes channel level) from to k []) (omega arith) scanned_none
 
   -- a run that is found is the next of them
-  pub taken_more : (cursor onward : Cursor) {xs : List Run} {x : Run} → Taken cursor xs → NextRun bytes channel level from to cursor (Found x onward)
+  pub taken_more : (cursor onward : Cursor) {xs : List Run} {x : Run} → Taken cursor xs → NextRun bytes channel level from to cursor (Some (x, onward))
       → Taken onward (xs ++ (x ∷ []))
   taken_more cursor onward {xs} {x} t n =
       subst (λ (k : ℕ). Scanned (Shows bytes channel level) from to k (xs ++ (x ∷ []))) (sym n.1) (scanned_more t n.0)
@@ -39,7 +39,7 @@ module _ (bytes : List ℕ) (channel : ℕ) (level : Level) (from to : ℕ) wher
   -- the runs handed out from a cursor on, until there is none
   pub data Handed : Cursor → List Run → Type 0 where
     no_more : {cursor : Cursor} → NextRun bytes channel level from to cursor None → Handed cursor []
-    one_more : {cursor onward : Cursor} {x : Run} {xs : List Run} → NextRun bytes channel level from to cursor (Found x onward) → Handed onward xs
+    one_more : {cursor onward : Cursor} {x : Run} {xs : List Run} → NextRun bytes channel level from to cursor (Some (x, onward)) → Handed onward xs
         → Handed cursor (x ∷ xs)
 
   handed_after : (cursor : Cursor) {xs ys : List Run} → Taken cursor xs → Handed cursor ys → Runs (Shows bytes channel level) from to (xs ++ ys)

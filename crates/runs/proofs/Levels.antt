@@ -10,12 +10,18 @@ use borrow.Author.Tests.{ltb-true, ltb-false, leb-true, leb-false, le-leb, ne_eq
 use lib.Dec.{leb, ltb}
 use Rattle.recording.specs.Reading.{tick, ticks, time, levels, changes, IsRecording}
 use Rattle.recording.specs.Changes.{begins}
+use Rattle.std.proofs.Common.{lt_of_lt_of_le, pow_mono, ◌/◌, ◌^◌}
+use native.Mathlib.Nat.{div-eq_of_lt}
 use Rattle.runs.specs.Levels.{level_in, Stands, Shows}
 use Rattle.runs.specs.Search.{other, same_level, leaves_at}
 use Rattle.runs.specs.declared.Level.{Level}
 use Rattle.runs.specs.declared.Level.TheVariants.{High, Low}
 use Rattle.recording.specs.declared.Dimensions.{Dimensions}
 use Rattle.recording.proofs.Changes.{begins_change, begins_end, begins_mono, begins_ticks}
+
+-- two bytes have no bit from the sixteenth on
+pub no_bit : (word channel : ℕ) → word < 65536 → 16 ≤ channel → word / 2 ^ channel ≡ 0
+no_bit word channel h k = div-eq_of_lt (lt_of_lt_of_le h (pow_mono k))
 
 -- THE LEVEL, COMPUTED
 

@@ -14,7 +14,7 @@ use Rattle.runs.specs.Search.{leaves_at, Decides, Sought}
 use Rattle.runs.specs.declared.Level.{Level}
 use Rattle.recording.specs.declared.Dimensions.{Dimensions}
 use Rattle.runs.specs.declared.Cursor.{Cursor}
-use Rattle.runs.specs.declared.Next.TheVariants.{Found, None}
+use Rattle.std.specs.Prelude.{Some, None}
 use Rattle.recording.proofs.Changes.{begins_mono, begins_ticks, begins_end}
 use Rattle.runs.proofs.Levels.{held}
 
@@ -70,12 +70,14 @@ module _ {bytes : List ℕ} {size : Dimensions} (read : IsRecording bytes size) 
       → beq (leaves_at bytes channel level i) wanted ≡ true → Sought bytes channel level from to j wanted i
   seek_found s h w = record { ahead = s.ahead; passed = s.passed; fits = h; shown = λ _. agreed _ wanted w }
 
-  -- behind the last change the search is over
-  pub seek_end : {i : ℕ} → Seeking bytes channel level from to j wanted i → to ≤ ticks bytes → changes bytes < i → Sought bytes channel level from to j wanted i
-  seek_end {i} s h l = record { ahead = s.ahead; passed = s.passed; fits = λ q. absurd (no_more q); shown = λ q. absurd (no_more q) }
+  -- behind the last change the search is over, wherever there
+  pub seek_end : {i r : ℕ} → Seeking bytes channel level from to j wanted i → to ≤ ticks bytes → changes bytes < i → j ≤ r → changes bytes < r
+      → Sought bytes channel level from to j wanted r
+  seek_end {i} {r} s h l a m =
+      record { ahead = a; passed = λ k f t p q. s.passed k f t p (omega (arith, begins_end bytes i l)); fits = λ q. absurd (no_more q); shown = λ q. absurd (no_more q) }
     where
-      no_more : begins bytes i < to → ⊥
-      no_more q = omega (arith, begins_end bytes i l)
+      no_more : begins bytes r < to → ⊥
+      no_more q = omega (arith, begins_end bytes r m)
 
 module _ {bytes : List ℕ} {size : Dimensions} (read : IsRecording bytes size) {channel : ℕ} {level : Level} {from to end : ℕ} {cursor : Cursor}
     (cut : end ≡ min to (ticks bytes)) {f : ℕ} (first : Sought bytes channel level from end cursor.change true f) where
@@ -86,7 +88,7 @@ module _ {bytes : List ℕ} {size : Dimensions} (read : IsRecording bytes size) 
   -- the run is from the change found first to the first one after it that leaves another level
   pub next_found : {p s e : ℕ} → begins bytes f < end → Sought bytes channel level from end (f + 1) false p
       → s ≡ max from (begins bytes f) → e ≡ min end (begins bytes p)
-      → NextRun bytes channel level from to cursor (Found (record { start = s; end = e }) (record { change = p }))
+      → NextRun bytes channel level from to cursor (Some (record { start = s; end = e }, record { change = p }))
   next_found {p} {s} {e} h past es ee = (
     record {
       ahead = omega (arith, begins_mono read cursor.change f first.ahead);

@@ -1,17 +1,17 @@
 // Runs of ticks in which a channel of a recording has a level: `next_run` gives them one after the other.
 #![tactic(auto)]
 
-ghost use Rattle.std.specs.Prelude.{◌≡◌, ◌||◌, ◌+◌, ◌*◌, ◌≤◌, ◌<◌, min, max, leb, ltb, length};
-ghost use Rattle.recording.specs.Reading.{ticks as ticksOf, IsRecording};
+ghost use Rattle.std.specs.Prelude.{◌≡◌, ◌||◌, ◌+◌, ◌≤◌, ◌<◌, min, max, leb, ltb};
+ghost use Rattle.recording.specs.Reading.{ticks as ticksOf};
 ghost use Rattle.recording.specs.Changes.{begins as beginsAt};
 ghost use Rattle.runs.specs.Levels.{level_in};
 ghost use Rattle.runs.specs.Scan.{NextRun};
-ghost use Rattle.runs.specs.Search.{same_level, leaves_at, Sought};
+ghost use Rattle.runs.specs.Search.{leaves_at, Sought};
 
-use recording::Dimensions;
+use recording::Recording;
 
 // A level of a channel.
-#[derive(Clone, Copy)]
+#[derive(Clone, Copy, PartialEq, Eq)]
 pub enum Level {
     High,
     Low,
@@ -31,131 +31,82 @@ pub struct Cursor {
     pub change: usize,
 }
 
-// The next run, and the cursor behind it.
-#[derive(Clone, Copy)]
-pub enum Next {
-    Found(Run, Cursor),
-    None,
-}
-
 // The level of a channel in a change's levels; a channel beyond the sixteenth is low.
+#[tactic(auto, using(crate::proofs::Levels::no_bit), unfolding(crate::specs::Levels::level_in))]
 fn level_in(word: u32, channel: u8) -> Level
     requires { word < 65536 }
     ensures { result ≡ level_in word channel }
 {
-    if 16 <= channel {
-        return Level::Low;
-    }
-    if (word >> channel) % 2 == 1 {
+    if channel < 16 && (word >> channel) % 2 == 1 {
         Level::High
     } else {
         Level::Low
     }
 }
 
-fn same(a: Level, b: Level) -> bool
-    ensures { result ≡ same_level a b }
-{
-    match a {
-        Level::High => match b {
-            Level::High => true,
-            Level::Low => false,
-        },
-        Level::Low => match b {
-            Level::High => false,
-            Level::Low => true,
-        },
-    }
-}
-
 // Change j leaves the channel at the level; before the first change it has none.
-fn leaves_at(bytes: &[u8], channel: u8, level: Level, j: usize) -> bool
-    requires { 8 * j + 7 < length bytes.now }
-    ensures { result ≡ leaves_at bytes.now channel level j }
+#[tactic(auto, unfolding(crate::specs::Search::leaves_at))]
+fn leaves_at(recording: &Recording<'_>, channel: u8, level: Level, j: usize) -> bool
+    requires { j ≤ recording.now.size.changes }
+    ensures { result ≡ leaves_at recording.now.bytes.now channel level j }
 {
-    if j == 0 {
-        return false;
-    }
-    same(level_in(recording::levels_of(bytes, j), channel), level)
-}
-
-fn earlier(a: u32, b: u32) -> u32
-    ensures { result ≡ min a b }
-{
-    if a < b { a } else { b }
-}
-
-fn later(a: u32, b: u32) -> u32
-    ensures { result ≡ max a b }
-{
-    if a < b { b } else { a }
+    j > 0 && level_in(recording.levels(j), channel) == level
 }
 
 // Change i leaves its levels for some tick of from..to, or `to` comes before it.
-fn reaches(bytes: &[u8], size: Dimensions, from: u32, to: u32, i: usize) -> bool
-    requires { IsRecording bytes.now size × (i ≤ size.changes) }
-    ensures { result ≡ (leb to (beginsAt bytes.now i) || ltb (max from (beginsAt bytes.now i)) (min to (beginsAt bytes.now (i + 1)))) }
+fn reaches(recording: &Recording<'_>, from: u32, to: u32, i: usize) -> bool
+    requires { i ≤ recording.now.size.changes }
+    ensures { result ≡ (leb to (beginsAt recording.now.bytes.now i) || ltb (max from (beginsAt recording.now.bytes.now i)) (min to (beginsAt recording.now.bytes.now (i + 1)))) }
 {
-    let a = recording::begins(bytes, size, i);
-    if to <= a {
-        return true;
-    }
-    later(from, a) < earlier(to, recording::begins(bytes, size, i + 1))
+    let a = recording.begins(i);
+    to <= a || from.max(a) < to.min(recording.begins(i + 1))
 }
 
 // The first change from j on that gives ticks of from..to the level, or another one where it is not wanted.
 fn seek(
-    bytes: &[u8],
-    size: Dimensions,
+    recording: Recording<'_>, // itself, so that the loop has its fields at hand
     channel: u8,
     level: Level,
     from: u32,
     to: u32,
     j: usize,
-    wanted: bool,
+    wanted: bool, // no step to choose: what `leaves_at` has to answer
 ) -> usize
-    requires { IsRecording bytes.now size × (to ≤ ticksOf bytes.now) }
-    ensures { Sought bytes.now channel level from to j wanted result }
+    requires { to ≤ ticksOf recording.bytes.now }
+    ensures { Sought recording.entry.bytes.now channel level from to j wanted result }
 {
-    let mut i = j;
-    while i <= size.changes {
+    let end = recording.size.changes + 1;
+    for i in j..end {
         // Most changes are of other channels, and a tick takes divisions.
-        if leaves_at(bytes, channel, level, i) == wanted {
-            if reaches(bytes, size, from, to, i) {
-                return i;
-            }
+        if leaves_at(&recording, channel, level, i) == wanted && reaches(&recording, from, to, i) {
+            return i;
         }
-        i += 1;
     }
-    i
+    j.max(end)
 }
 
-// The next maximal run of a channel at a level within the ticks from..to, from a cursor on. A cursor at change 0 starts at `from`.
+// The next maximal run of a channel at a level within the ticks from..to, from a cursor on, and the cursor behind it. A cursor at change 0
+// starts at `from`.
 pub fn next_run(
-    bytes: &[u8],
-    size: Dimensions,
+    recording: &Recording<'_>,
     channel: u8,
     level: Level,
     from: u32,
     to: u32,
     cursor: Cursor,
-) -> Next
-    requires { IsRecording bytes.now size }
-    ensures { NextRun bytes.now channel level from to cursor result }
+) -> Option<(Run, Cursor)>
+    ensures { NextRun recording.now.bytes.now channel level from to cursor result }
 {
-    let end = earlier(to, size.ticks);
-    let first = seek(bytes, size, channel, level, from, end, cursor.change, true);
-    let a = recording::begins(bytes, size, first);
+    let end = to.min(recording.size.ticks);
+    let first = seek(*recording, channel, level, from, end, cursor.change, true);
+    let a = recording.begins(first);
     if end <= a {
-        return Next::None;
+        return None;
     }
-    let past = seek(bytes, size, channel, level, from, end, first + 1, false);
-    let b = recording::begins(bytes, size, past);
-    Next::Found(
-        Run {
-            start: later(from, a),
-            end: earlier(end, b),
-        },
-        Cursor { change: past },
-    )
+    let past = seek(*recording, channel, level, from, end, first + 1, false);
+    let run = Run {
+        start: from.max(a),
+        end: end.min(recording.begins(past)),
+    };
+    Some((run, Cursor { change: past }))
 }

@@ -2,7 +2,7 @@
 use Rattle.std.proofs.Common.{◌∙◌, arith}
 use Rattle.list.proofs.Slots.{kept_trans}
 use Rattle.expression.proofs.Laws.{planted_some}
-use Rattle.primaries.proofs.Windows.{looks_ticks, few_channels}
+use Rattle.primaries.proofs.Windows.{window_ticks, few_channels}
 use Rattle.evaluation.proofs.Evaluator.{
   node_is,
   roomy,
@@ -31,24 +31,24 @@ use Rattle.evaluation.proofs.+evaluate.Goals as goal
 
 pub overflow_sub-rest : goal.overflow_sub-rest
 overflow_sub-rest t c =
-    planted_some c.requires.1.planted
+    planted_some c.requires.0.planted
 
 pub point-requires : goal.point-requires
 point-requires t c =
-    (looks_ticks c.requires.0, omega (arith, c.requires.3))
+    (window_ticks c.args.window.now, omega (arith, c.requires.2))
 
 pub overflow_cast-channel : goal.overflow_cast-channel
 overflow_cast-channel t c =
-    omega (arith, (node_is _ c.node_at.ensures c.in-Literal.is c.requires.1.planted).1, few_channels c.requires.0)
+    omega (arith, (node_is _ c.node_at.ensures c.in-Literal.is c.requires.0.planted).1, few_channels c.args.window.now)
 
 pub literal-requires : goal.literal-requires
 literal-requires t c =
-    (c.requires.0, omega (arith, c.requires.3))
+    omega (arith, c.requires.2)
 
 pub evaluate-only-requires : goal.evaluate-only-requires
 evaluate-only-requires t c =
-    let s = node_is _ c.node_at.ensures c.in-Applied.is c.requires.1.planted in
-    (rest_falls (planted_some c.requires.1.planted) c.decreases, (c.requires.0, record { expression = s.0; planted = s.3 }, rest_few c.requires.2, room_left (planted_some c.requires.1.planted) _ c.requires.3))
+    let s = node_is _ c.node_at.ensures c.in-Applied.is c.requires.0.planted in
+    (rest_falls (planted_some c.requires.0.planted) c.decreases, (record { expression = s.0; planted = s.3 }, rest_few c.requires.1, room_left (planted_some c.requires.0.planted) _ c.requires.2))
 
 pub shape_of-work-in_default : goal.shape_of-work-in_default
 shape_of-work-in_default t c =
@@ -60,20 +60,20 @@ returns-in_default t c =
       value =
           λ e p.
           let s = node_is _ c.node_at.ensures c.in-Applied.is p in
-          one_stops c.requires.0 s.0 c.in-Applied.op s.1 _ _ _ c.evaluate-only.result _ _ c.in_default.not-Listed (c.evaluate-only.ensures.value s.0 s.3);
-      kept = kept_left (planted_some c.requires.1.planted) _ c.evaluate-only.ensures.kept;
+          one_stops c.args.window.now s.0 c.in-Applied.op s.1 _ _ _ c.evaluate-only.result _ _ c.in_default.not-Listed (c.evaluate-only.ensures.value s.0 s.3);
+      kept = kept_left (planted_some c.requires.0.planted) _ c.evaluate-only.ensures.kept;
     }
 
 pub apply-requires : goal.apply-requires
 apply-requires t c =
-    let s = node_is _ c.node_at.ensures c.in-Applied.is c.requires.1.planted in
+    let s = node_is _ c.node_at.ensures c.in-Applied.is c.requires.0.planted in
     let v = rw c.in-Listed.is at (c.evaluate-only.ensures.value s.0 s.3) in
-    (only_operand c.requires.0 s.0 v (roomy c.evaluate-only.ensures.kept (room_three (planted_some c.requires.1.planted) _ c.requires.3)), looks_ticks c.requires.0, s.2)
+    (only_operand c.args.window.now s.0 v (roomy c.evaluate-only.ensures.kept (room_three (planted_some c.requires.0.planted) _ c.requires.2)), window_ticks c.args.window.now, s.2)
 
 pub evaluate-first-requires : goal.evaluate-first-requires
 evaluate-first-requires t c =
-    let s = node_is _ c.node_at.ensures c.in-Infix.is c.requires.1.planted in
-    (rest_falls (planted_some c.requires.1.planted) c.decreases, (c.requires.0, record { expression = s.0; planted = s.3 }, rest_few c.requires.2, room_left (planted_some c.requires.1.planted) _ c.requires.3))
+    let s = node_is _ c.node_at.ensures c.in-Infix.is c.requires.0.planted in
+    (rest_falls (planted_some c.requires.0.planted) c.decreases, (record { expression = s.0; planted = s.3 }, rest_few c.requires.1, room_left (planted_some c.requires.0.planted) _ c.requires.2))
 
 pub shape_of-work-in_default-first : goal.shape_of-work-in_default-first
 shape_of-work-in_default-first t c =
@@ -85,18 +85,18 @@ returns-in_default-first t c =
       value =
           λ e p.
           let s = node_is _ c.node_at.ensures c.in-Infix.is p in
-          left_stops c.requires.0 s.0 s.1 c.in-Infix.op s.2 _ _ _ c.evaluate-first.result _ _ c.in_default-first.not-Listed (c.evaluate-first.ensures.value s.0 s.3);
-      kept = kept_left (planted_some c.requires.1.planted) _ c.evaluate-first.ensures.kept;
+          left_stops c.args.window.now s.0 s.1 c.in-Infix.op s.2 _ _ _ c.evaluate-first.result _ _ c.in_default-first.not-Listed (c.evaluate-first.ensures.value s.0 s.3);
+      kept = kept_left (planted_some c.requires.0.planted) _ c.evaluate-first.ensures.kept;
     }
 
 pub overflow_add-next : goal.overflow_add-next
 overflow_add-next t c =
-    omega (arith, c.requires.3, c.evaluate-first.ensures.kept.same_length)
+    omega (arith, c.requires.2, c.evaluate-first.ensures.kept.same_length)
 
 pub evaluate-second-requires : goal.evaluate-second-requires
 evaluate-second-requires t c =
-    let s = node_is _ c.node_at.ensures c.in-Infix.is c.requires.1.planted in
-    (rest_falls (planted_some c.requires.1.planted) c.decreases, (c.requires.0, record { expression = s.1; planted = s.4 }, rest_few c.requires.2, roomy c.evaluate-first.ensures.kept (room_right (planted_some c.requires.1.planted) _ c.requires.3)))
+    let s = node_is _ c.node_at.ensures c.in-Infix.is c.requires.0.planted in
+    (rest_falls (planted_some c.requires.0.planted) c.decreases, (record { expression = s.1; planted = s.4 }, rest_few c.requires.1, roomy c.evaluate-first.ensures.kept (room_right (planted_some c.requires.0.planted) _ c.requires.2)))
 
 pub shape_of-work-in_default-second : goal.shape_of-work-in_default-second
 shape_of-work-in_default-second t c =
@@ -109,17 +109,17 @@ returns-in_default-second t c =
           λ e p.
           let s = node_is _ c.node_at.ensures c.in-Infix.is p in
           let v = rw c.in-Listed-first.is at (c.evaluate-first.ensures.value s.0 s.3) in
-          right_stops c.requires.0 s.0 s.1 c.in-Infix.op s.2 _ _ _ c.evaluate-second.result v _ _ c.in_default-second.not-Listed (c.evaluate-second.ensures.value s.1 s.4);
-      kept = kept_trans (kept_left (planted_some c.requires.1.planted) _ c.evaluate-first.ensures.kept) (kept_right (planted_some c.requires.1.planted) _ c.evaluate-second.ensures.kept);
+          right_stops c.args.window.now s.0 s.1 c.in-Infix.op s.2 _ _ _ c.evaluate-second.result v _ _ c.in_default-second.not-Listed (c.evaluate-second.ensures.value s.1 s.4);
+      kept = kept_trans (kept_left (planted_some c.requires.0.planted) _ c.evaluate-first.ensures.kept) (kept_right (planted_some c.requires.0.planted) _ c.evaluate-second.ensures.kept);
     }
 
 pub combine-requires : goal.combine-requires
 combine-requires t c =
-    let s = node_is _ c.node_at.ensures c.in-Infix.is c.requires.1.planted in
+    let s = node_is _ c.node_at.ensures c.in-Infix.is c.requires.0.planted in
     let v = rw c.in-Listed-first.is at (c.evaluate-first.ensures.value s.0 s.3) in
     let w = rw c.in-Listed-second.is at (c.evaluate-second.ensures.value s.1 s.4) in (
-      left_operand c.requires.0 s.0 v _ c.evaluate-second.ensures.kept (roomy c.evaluate-first.ensures.kept (room_three (planted_some c.requires.1.planted) _ c.requires.3)),
-      right_operand c.requires.0 s.1 w (roomy c.evaluate-second.ensures.kept (roomy c.evaluate-first.ensures.kept (room_second (planted_some c.requires.1.planted) _ c.requires.3))),
+      left_operand c.args.window.now s.0 v _ c.evaluate-second.ensures.kept (roomy c.evaluate-first.ensures.kept (room_three (planted_some c.requires.0.planted) _ c.requires.2)),
+      right_operand c.args.window.now s.1 w (roomy c.evaluate-second.ensures.kept (roomy c.evaluate-first.ensures.kept (room_second (planted_some c.requires.0.planted) _ c.requires.2))),
     )
 
 pub shape_of-work-in-Epsilon : goal.shape_of-work-in-Epsilon
@@ -131,8 +131,8 @@ returns-in-Epsilon t c =
     record {
       value =
           λ e p.
-          leaf_done c.requires.0 (node_is _ c.node_at.ensures c.in-Epsilon.is p) _ _ _ c.point.result c.point.ensures.value;
-      kept = kept_one (planted_some c.requires.1.planted) _ c.point.ensures.kept;
+          leaf_done c.args.window.now (node_is _ c.node_at.ensures c.in-Epsilon.is p) _ _ _ c.point.result c.point.ensures.value;
+      kept = kept_one (planted_some c.requires.0.planted) _ c.point.ensures.kept;
     }
 
 pub shape_of-work-in-Literal : goal.shape_of-work-in-Literal
@@ -144,8 +144,8 @@ returns-in-Literal t c =
     record {
       value =
           λ e p.
-          leaf_done c.requires.0 (node_is _ c.node_at.ensures c.in-Literal.is p).0 _ _ _ c.literal.result c.literal.ensures.value;
-      kept = kept_one (planted_some c.requires.1.planted) _ c.literal.ensures.kept;
+          leaf_done c.args.window.now (node_is _ c.node_at.ensures c.in-Literal.is p).0 _ _ _ c.literal.result c.literal.ensures.value;
+      kept = kept_one (planted_some c.requires.0.planted) _ c.literal.ensures.kept;
     }
 
 pub shape_of-work-in-Listed : goal.shape_of-work-in-Listed
@@ -159,8 +159,8 @@ returns-in-Listed t c =
           λ e p.
           let s = node_is _ c.node_at.ensures c.in-Applied.is p in
           let v = rw c.in-Listed.is at (c.evaluate-only.ensures.value s.0 s.3) in
-          one_done c.requires.0 s.0 c.in-Applied.op s.1 _ _ _ c.apply.result v c.apply.ensures.value;
-      kept = kept_trans (kept_left (planted_some c.requires.1.planted) _ c.evaluate-only.ensures.kept) (kept_three (planted_some c.requires.1.planted) _ c.apply.ensures.kept);
+          one_done c.args.window.now s.0 c.in-Applied.op s.1 _ _ _ c.apply.result v c.apply.ensures.value;
+      kept = kept_trans (kept_left (planted_some c.requires.0.planted) _ c.evaluate-only.ensures.kept) (kept_three (planted_some c.requires.0.planted) _ c.apply.ensures.kept);
     }
 
 pub shape_of-work-in-Listed-second : goal.shape_of-work-in-Listed-second
@@ -175,6 +175,6 @@ returns-in-Listed-second t c =
           let s = node_is _ c.node_at.ensures c.in-Infix.is p in
           let v = rw c.in-Listed-first.is at (c.evaluate-first.ensures.value s.0 s.3) in
           let w = rw c.in-Listed-second.is at (c.evaluate-second.ensures.value s.1 s.4) in
-          two_done c.requires.0 s.0 s.1 c.in-Infix.op s.2 _ _ _ c.combine.result v w (left_there c.requires.0 s.0 v _ c.evaluate-second.ensures.kept) c.combine.ensures.value;
-      kept = kept_trans (kept_left (planted_some c.requires.1.planted) _ c.evaluate-first.ensures.kept) (kept_trans (kept_right (planted_some c.requires.1.planted) _ c.evaluate-second.ensures.kept) (kept_three (planted_some c.requires.1.planted) _ c.combine.ensures.kept));
+          two_done c.args.window.now s.0 s.1 c.in-Infix.op s.2 _ _ _ c.combine.result v w (left_there c.args.window.now s.0 v _ c.evaluate-second.ensures.kept) c.combine.ensures.value;
+      kept = kept_trans (kept_left (planted_some c.requires.0.planted) _ c.evaluate-first.ensures.kept) (kept_trans (kept_right (planted_some c.requires.0.planted) _ c.evaluate-second.ensures.kept) (kept_three (planted_some c.requires.0.planted) _ c.combine.ensures.kept));
     }

@@ -4,6 +4,6 @@ use Rattle.primaries.proofs.letter.Goals as goal
 
 pub returns : goal.returns
 returns c = record {
-  value = spells_letter c.requires.0 _ _ _ _ _ c.spell.result c.spell.ensures.value;
+  value = spells_letter _ _ _ _ _ _ _ _ c.spell.result c.spell.ensures.value;
   kept = c.spell.ensures.kept;
 }
