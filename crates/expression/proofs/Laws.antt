@@ -1,4 +1,5 @@
 -- What an evaluator relies on: planted nodes have planted operands, with less depth left, and ranges in order.
+use Rattle.std.proofs.Common.{Option, Some, None}
 use mathlib.Core.Path.{◌≡◌, refl}
 use mathlib.Core.List.Memᴰ
 use mathlib.Core.List.{List, ◌++◌, Memᴰ}
@@ -7,8 +8,6 @@ use Prim.Native.Nat.{ℕ, suc, ◌-◌, ◌<◌, ◌≤◌, max}
 use native.Mathlib.Omega.{arith}
 use Rattle.expression.specs.declared.Range.{Range}
 use Rattle.expression.specs.declared.End.{End}
-use Rattle.expression.specs.declared.Upper.{Upper}
-use Rattle.expression.specs.declared.Upper.TheVariants.{Endless, UpTo}
 use Rattle.expression.specs.declared.Node.{Node}
 use Rattle.expression.specs.declared.Node.TheVariants.{Epsilon, Literal, Infix, Applied}
 use Rattle.expression.specs.Expression.{Expression, epsilon, literal, join, Star, Band, Absence, unary, depth, letters, ranges}
@@ -80,14 +79,14 @@ pub operands : {ns : List ℕ} {channels n d : ℕ} {e : Expression} → Planted
 operands p = made p.stored p.shallow p.known p.right
 
 -- the bounds of a range that is not wrong
-abbrev pub InOrder : ℕ → Upper → Type 0
-InOrder lo Endless = Unit {0}
-InOrder lo (UpTo hi) = (lo ≤ figure hi) × (figure hi ≤ 1000000)
+abbrev pub InOrder : ℕ → Option End → Type 0
+InOrder lo None = Unit {0}
+InOrder lo (Some hi) = (lo ≤ figure hi) × (figure hi ≤ 1000000)
 
 -- A range that is not wrong has bounds of at most 1,000,000, in order.
-pub right_range : (lo : End) (hi : Upper) → (Wrong (record { lo = lo; hi = hi }) → ⊥) → (figure lo ≤ 1000000) × InOrder (figure lo) hi
-right_range lo Endless w = let a : 1000000 < figure lo → ⊥ = λ h. w (inl h) in (omega arith, tt)
-right_range lo (UpTo hi) w =
+pub right_range : (lo : End) (hi : Option End) → (Wrong (record { lo = lo; hi = hi }) → ⊥) → (figure lo ≤ 1000000) × InOrder (figure lo) hi
+right_range lo None w = let a : 1000000 < figure lo → ⊥ = λ h. w (inl h) in (omega arith, tt)
+right_range lo (Some hi) w =
     let a : 1000000 < figure lo → ⊥ = λ h. w (inl h) in
     let b : 1000000 < figure hi → ⊥ = λ h. w (inr (inl h)) in
     let c : figure hi < figure lo → ⊥ = λ h. w (inr (inr (inl h))) in

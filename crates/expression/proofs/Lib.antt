@@ -1,3 +1,2 @@
 pub mod Nodes
 pub mod Laws
-pub mod Ranges

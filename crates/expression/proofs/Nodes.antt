@@ -3,12 +3,13 @@ use mathlib.Core.Path.{◌≡◌, refl, ◌∙◌}
 use mathlib.Core.List.{List}
 use Prim.Native.Nat.{ℕ, ◌+◌, ◌*◌, ◌<◌, ◌≤◌}
 use native.Mathlib.Omega.{arith}
-use lib.ListN.{length, get_or, set, length-set}
-use lib.Seq.{get_or-set_same, get_or-set_other}
+use lib.ListN.{length, get_or}
+use borrow.Rule.Slice.PartMut.{put_mid}
+use Rattle.std.proofs.Common.{rules, add-zero}
+use Rattle.std.proofs.lemmas.List.{places}
 use Rattle.expression.specs.declared.Node.{Node}
 use Rattle.expression.specs.Expression.{Expression}
 use Rattle.expression.specs.Stored.{
-  decoded,
   node_at,
   Stored,
   stored_epsilon,
@@ -36,28 +37,22 @@ stored_keep h k (stored_literal w) = stored_literal (node_keep _ h k ∙ w)
 stored_keep h k (stored_join w a b x y) = stored_join (node_keep _ h k ∙ w) a b (stored_keep (omega arith) k x) (stored_keep (omega arith) k y)
 stored_keep h k (stored_unary w a x) = stored_unary (node_keep _ h k ∙ w) a (stored_keep (omega arith) k x)
 
--- the four words of node n, written one after the other
-pub stores : (ns : List ℕ) {i n : ℕ} (op x y z : ℕ) {node : Node} → i ≡ n → n * 4 + 4 ≤ length ns → decoded op x y z ≡ node
-    → Placed n node ns (set (set (set (set ns (i * 4) op) (i * 4 + 1) x) (i * 4 + 2) y) (i * 4 + 3) z)
-unfolding node_at
-stores ns {i} {n} op x y z e h d =
-    let a : n * 4 < length ns = omega arith in
-    let b : n * 4 + 1 < length (set ns (n * 4) op) = simp length-set (omega arith) in
-    let c : n * 4 + 2 < length (set (set ns (n * 4) op) (n * 4 + 1) x) = simp length-set (omega arith) in
-    let f : n * 4 + 3 < length (set (set (set ns (n * 4) op) (n * 4 + 1) x) (n * 4 + 2) y) = simp length-set (omega arith) in
-    let ab : n * 4 ≡ n * 4 + 1 → ⊥ = omega arith in
-    let ac : n * 4 ≡ n * 4 + 2 → ⊥ = omega arith in
-    let ad : n * 4 ≡ n * 4 + 3 → ⊥ = omega arith in
-    let bc : n * 4 + 1 ≡ n * 4 + 2 → ⊥ = omega arith in
-    let bd : n * 4 + 1 ≡ n * 4 + 3 → ⊥ = omega arith in
-    let cd : n * 4 + 2 ≡ n * 4 + 3 → ⊥ = omega arith in
-    rw e
-    (record {
-      placed = simp (get_or-set_other, get_or-set_same) d;
-      front = record { kept = λ k l. others k (omega arith) (omega arith) (omega arith) (omega arith) };
-      behind = λ k l. others k (omega arith) (omega arith) (omega arith) (omega arith);
-    })
-  where
-    others : (k : ℕ) → (k ≡ n * 4 → ⊥) → (k ≡ n * 4 + 1 → ⊥) → (k ≡ n * 4 + 2 → ⊥) → (k ≡ n * 4 + 3 → ⊥)
-        → get_or (set (set (set (set ns (n * 4) op) (n * 4 + 1) x) (n * 4 + 2) y) (n * 4 + 3) z) k 0 ≡ get_or ns k 0
-    others k p q r s = simp get_or-set_other
+-- four words, written over node n
+module _ (ns ws : List ℕ) (n k : ℕ) (four : length ws ≡ 4) (is : k ≡ 4) (room : n * 4 + 4 ≤ length ns) where
+  written : (i : ℕ) → i < 4 → get_or (put_mid (n * 4) k ns ws) (n * 4 + i) 0 ≡ get_or ws i 0
+  written i h = search (rules, places)
+
+  below : (i : ℕ) → i < n * 4 → get_or (put_mid (n * 4) k ns ws) i 0 ≡ get_or ns i 0
+  below i h = search (rules, places)
+
+  above : (i : ℕ) → n * 4 + 4 ≤ i → get_or (put_mid (n * 4) k ns ws) i 0 ≡ get_or ns i 0
+  above i h = search (rules, places)
+
+  pub stores : {node : Node} → node_at ws 0 ≡ node → Placed n node ns (put_mid (n * 4) k ns ws)
+  unfolding node_at
+  stores d =
+      record {
+        placed = rw (rw add-zero at (written 0 (omega arith)), written 1 (omega arith), written 2 (omega arith), written 3 (omega arith)) d;
+        front = record { kept = below };
+        behind = above;
+      }

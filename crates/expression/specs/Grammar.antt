@@ -1,10 +1,9 @@
 -- Document 01's grammar: `Form l text e` says that the text is of the level l, and that it is the expression e.
 -- Bytes: 33 `!`, 38 `&`, 40 `(`, 41 `)`, 42 `*`, 43 `+`, 44 `,`, 45 `-`, 46 `.`, 48 `0`, 60 `<`, 95 `_`, 97 `a`, 123 `{`, 124 `|`, 125 `}`, 126 `~`.
-use Rattle.std.specs.Prelude.{ℕ, ◌+◌, ◌*◌, ◌<◌, List, [], ◌∷◌, ◌++◌}
+use Rattle.std.specs.Prelude.{Some, None, ℕ, ◌+◌, ◌*◌, ◌<◌, List, [], ◌∷◌, ◌++◌}
 use Rattle.expression.specs.declared.Range.{Range}
 use Rattle.expression.specs.declared.End.{End}
 use Rattle.expression.specs.declared.End.TheVariants.{Closed, Open}
-use Rattle.expression.specs.declared.Upper.TheVariants.{Endless, UpTo}
 use Rattle.expression.specs.Expression.{Expression, epsilon, High, Low, Rise, Fall, literal, Union, Intersection, Concatenation, join, Star, Band, Absence, unary}
 
 -- "decimal, without a leading zero unless 0 itself": a digit goes after a number that is not 0
@@ -19,8 +18,8 @@ pub data Bound : List ℕ → End → Type 0 where
 
 -- what stands between the braces; "hi may be missing, meaning no upper limit"
 pub data Limits : List ℕ → Range → Type 0 where
-  from : {s : List ℕ} {lo : End} → Bound s lo → Limits (s ++ (44 ∷ [])) (record { lo = lo; hi = Endless })
-  between : {s u : List ℕ} {lo hi : End} → Bound s lo → Bound u hi → Limits (s ++ (44 ∷ u)) (record { lo = lo; hi = UpTo hi })
+  from : {s : List ℕ} {lo : End} → Bound s lo → Limits (s ++ (44 ∷ [])) (record { lo = lo; hi = None })
+  between : {s u : List ℕ} {lo hi : End} → Bound s lo → Bound u hi → Limits (s ++ (44 ∷ u)) (record { lo = lo; hi = Some hi })
 
 pub data Level : Type 0 where
   alternative : Level

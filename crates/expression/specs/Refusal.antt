@@ -1,11 +1,9 @@
 -- Document 01, "Turned back": the causes 4 to 8, which are those of a drill, and which of them is given.
-use Rattle.std.specs.Prelude.{◌≡◌, ◌⊎◌, ℕ, ◌<◌, ◌≤◌, length}
+use Rattle.std.specs.Prelude.{Option, Some, None, ◌≡◌, ◌⊎◌, ℕ, ◌<◌, ◌≤◌, length}
 use mathlib.Core.List.{List, Memᴰ}
 use Rattle.expression.specs.declared.Range.{Range}
 use Rattle.expression.specs.declared.End.{End}
 use Rattle.expression.specs.declared.End.TheVariants.{Closed, Open}
-use Rattle.expression.specs.declared.Upper.{Upper}
-use Rattle.expression.specs.declared.Upper.TheVariants.{Endless, UpTo}
 use Rattle.expression.specs.Expression.{Expression, depth, letters, ranges}
 use Rattle.expression.specs.Grammar.{Form, alternative}
 
@@ -20,9 +18,9 @@ Opened (Closed n) = ⊥
 Opened (Open n) = Unit {0}
 
 -- "hi above 1,000,000, or lo > hi", where there is a hi; and "Equal lo and hi with a `<` on either"
-abbrev pub WrongUpper : End → Upper → Type 0
-WrongUpper lo Endless = ⊥
-WrongUpper lo (UpTo hi) = (1000000 < figure hi) ⊎ ((figure hi < figure lo) ⊎ ((figure lo ≡ figure hi) × (Opened lo ⊎ Opened hi)))
+abbrev pub WrongUpper : End → Option End → Type 0
+WrongUpper lo None = ⊥
+WrongUpper lo (Some hi) = (1000000 < figure hi) ⊎ ((figure hi < figure lo) ⊎ ((figure lo ≡ figure hi) × (Opened lo ⊎ Opened hi)))
 
 -- "lo or hi above 1,000,000, or lo > hi", or equal with a `<`
 abbrev pub Wrong : Range → Type 0

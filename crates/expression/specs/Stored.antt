@@ -1,15 +1,13 @@
 -- Expressions in a buffer of words, four to a node: the operation, and up to three numbers.
-use Rattle.std.specs.Prelude.{◌≡◌, cond, List, ℕ, ◌+◌, ◌*◌, ◌<◌, ◌≤◌, eqb, get_or}
+use Rattle.std.specs.Prelude.{Option, Some, None, ◌≡◌, cond, List, ℕ, ◌+◌, ◌*◌, ◌<◌, ◌≤◌, eqb, get_or}
 use Rattle.expression.specs.declared.End.{End}
 use Rattle.expression.specs.declared.End.TheVariants.{Closed, Open}
-use Rattle.expression.specs.declared.Upper.{Upper}
-use Rattle.expression.specs.declared.Upper.TheVariants.{Endless, UpTo}
 use Rattle.expression.specs.declared.Node.{Node}
 use Rattle.expression.specs.declared.Node.TheVariants.{Epsilon, Literal, Infix, Applied}
 use Rattle.expression.specs.Expression.{Expression, epsilon, Sign, High, Low, Rise, Fall, literal, Join, Union, Intersection, Concatenation, join, Unary, Star, Band, Absence, unary}
 
 -- the node of a band
-abbrev pub band_node : End → Upper → ℕ → Node
+abbrev pub band_node : End → Option End → ℕ → Node
 band_node lo hi x = Applied (Band (record { lo = lo; hi = hi })) x
 
 -- the node of an operation and three numbers; a band has an operation for each kind of its ends
@@ -23,12 +21,12 @@ decoded op x y z =
     (cond (eqb op 6) (Infix Intersection x y)
     (cond (eqb op 7) (Infix Concatenation x y)
     (cond (eqb op 8) (Applied Star x)
-    (cond (eqb op 9) (band_node (Closed y) Endless x)
-    (cond (eqb op 10) (band_node (Open y) Endless x)
-    (cond (eqb op 11) (band_node (Closed y) (UpTo (Closed z)) x)
-    (cond (eqb op 12) (band_node (Closed y) (UpTo (Open z)) x)
-    (cond (eqb op 13) (band_node (Open y) (UpTo (Closed z)) x)
-    (cond (eqb op 14) (band_node (Open y) (UpTo (Open z)) x)
+    (cond (eqb op 9) (band_node (Closed y) None x)
+    (cond (eqb op 10) (band_node (Open y) None x)
+    (cond (eqb op 11) (band_node (Closed y) (Some (Closed z)) x)
+    (cond (eqb op 12) (band_node (Closed y) (Some (Open z)) x)
+    (cond (eqb op 13) (band_node (Open y) (Some (Closed z)) x)
+    (cond (eqb op 14) (band_node (Open y) (Some (Open z)) x)
     (cond (eqb op 15) (Applied Absence x) Epsilon))))))))))))))
 
 -- node n of the buffer; past its end every word is 0

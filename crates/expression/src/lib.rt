@@ -3,10 +3,12 @@
 //
 // specs/Expression.antt has the expressions, specs/Grammar.antt the texts that document 01 takes for them, specs/Refusal.antt
 // the causes 4 to 8. Which text is which expression is found in `parser`. Nothing is known here of recordings.
+//
+// A tree's nodes are numbered, and stand in words that the caller lends: there is no heap, and `decoded` of specs/Stored.antt is
+// what four words stand for.
 #![tactic(auto)]
 
 ghost use Rattle.std.specs.Prelude.{◌≡◌, true, ◌↔◌, ◌+◌, ◌*◌, ◌≤◌, length, get_or};
-ghost use Rattle.expression.specs.declared.Upper.TheVariants.{UpTo};
 ghost use Rattle.expression.specs.Refusal.{figure, Opened, WrongUpper, Wrong};
 ghost use Rattle.expression.specs.Stored.{band_node, decoded, node_at, Placed};
 
@@ -17,18 +19,27 @@ pub enum End {
     Open(u32),
 }
 
-// The upper end of a range of lengths.
-#[derive(Clone, Copy)]
-pub enum Upper {
-    Endless,
-    UpTo(End),
+impl End {
+    fn figure(self) -> u32
+        ensures { result ≡ figure self }
+    {
+        match self {
+            End::Closed(n) | End::Open(n) => n,
+        }
+    }
+
+    fn is_open(self) -> bool
+        ensures { (result ≡ true) ↔ Opened self }
+    {
+        matches!(self, End::Open(_))
+    }
 }
 
-// A range of lengths.
+// A range of lengths. Without hi it has no upper limit.
 #[derive(Clone, Copy)]
 pub struct Range {
     pub lo: End,
-    pub hi: Upper,
+    pub hi: Option<End>,
 }
 
 // What a letter asks of its channel: a level, or the moment when the level goes over.
@@ -65,84 +76,37 @@ pub enum Node {
     Applied(Unary, u32),
 }
 
-fn figure(end: End) -> u32
-    ensures { result ≡ figure end }
-{
-    match end {
-        End::Closed(n) => n,
-        End::Open(n) => n,
-    }
-}
-
-fn is_open(end: End) -> bool
-    ensures { (result ≡ true) ↔ Opened end }
-{
-    match end {
-        End::Closed(_) => false,
-        End::Open(_) => true,
-    }
-}
-
 // Whether hi is above 1,000,000, or below lo, or equal to it with a `<` on either.
 fn is_wrong_upper(lo: End, hi: End) -> bool
-    ensures { (result ≡ true) ↔ WrongUpper lo (UpTo hi) }
+    ensures { (result ≡ true) ↔ WrongUpper lo (Some hi) }
 {
-    let least = figure(lo);
-    let most = figure(hi);
-    if 1000000 < most {
-        return true;
-    }
-    if most < least {
-        return true;
-    }
-    if least < most {
-        return false;
-    }
-    if is_open(lo) {
-        return true;
-    }
-    is_open(hi)
+    let least = lo.figure();
+    let most = hi.figure();
+    1_000_000 < most || most < least || least == most && (lo.is_open() || hi.is_open())
 }
 
 // Whether check 7 refuses the range.
 pub fn is_wrong(range: Range) -> bool
     ensures { (result ≡ true) ↔ Wrong range }
 {
-    let lo = range.lo;
-    let hi = range.hi;
-    if 1000000 < figure(lo) {
-        return true;
-    }
-    match hi {
-        Upper::Endless => false,
-        Upper::UpTo(end) => is_wrong_upper(lo, end),
-    }
-}
-
-// The words of a node: its operation, and up to three numbers.
-#[derive(Clone, Copy)]
-struct Words(u32, u32, u32, u32);
-
-fn widened(x: u32) -> usize
-    ensures { result ≡ x }
-{
-    x as usize
+    1_000_000 < range.lo.figure() || range.hi.is_some_and(|hi| is_wrong_upper(range.lo, hi))
 }
 
 // The word at i, 0 past the end.
 fn word(nodes: &[u32], i: usize) -> u32
     ensures { result ≡ get_or nodes.now i 0 }
 {
-    if i < nodes.len() { nodes[i] } else { 0 }
+    nodes.get(i).copied().unwrap_or(0)
 }
 
-fn band_node(lo: End, hi: Upper, operand: u32) -> Node
+fn band_node(lo: End, hi: Option<End>, operand: u32) -> Node
     ensures { result ≡ band_node lo hi operand }
 {
     Node::Applied(Unary::Band(Range { lo, hi }), operand)
 }
 
 // The node that four words stand for.
+#[tactic(auto, unfolding(crate::specs::Stored::decoded))]
 fn node_of(op: u32, x: u32, y: u32, z: u32) -> Node
     ensures { result ≡ decoded op x y z }
 {
@@ -155,22 +119,23 @@ fn node_of(op: u32, x: u32, y: u32, z: u32) -> Node
         6 => Node::Infix(Join::Intersection, x, y),
         7 => Node::Infix(Join::Concatenation, x, y),
         8 => Node::Applied(Unary::Star, x),
-        9 => band_node(End::Closed(y), Upper::Endless, x),
-        10 => band_node(End::Open(y), Upper::Endless, x),
-        11 => band_node(End::Closed(y), Upper::UpTo(End::Closed(z)), x),
-        12 => band_node(End::Closed(y), Upper::UpTo(End::Open(z)), x),
-        13 => band_node(End::Open(y), Upper::UpTo(End::Closed(z)), x),
-        14 => band_node(End::Open(y), Upper::UpTo(End::Open(z)), x),
+        9 => band_node(End::Closed(y), None, x),
+        10 => band_node(End::Open(y), None, x),
+        11 => band_node(End::Closed(y), Some(End::Closed(z)), x),
+        12 => band_node(End::Closed(y), Some(End::Open(z)), x),
+        13 => band_node(End::Open(y), Some(End::Closed(z)), x),
+        14 => band_node(End::Open(y), Some(End::Open(z)), x),
         15 => Node::Applied(Unary::Absence, x),
         _ => Node::Epsilon,
     }
 }
 
 // Node n. Past the end of the buffer, and where no other node's words stand, that is `Epsilon`.
+#[tactic(auto, unfolding(crate::specs::Stored::node_at))]
 pub fn node_at(nodes: &[u32], n: u32) -> Node
     ensures { result ≡ node_at nodes.now n }
 {
-    let i = widened(n) * 4;
+    let i = n as usize * 4;
     node_of(
         word(nodes, i),
         word(nodes, i + 1),
@@ -179,54 +144,38 @@ pub fn node_at(nodes: &[u32], n: u32) -> Node
     )
 }
 
-// The words that stand for a band. Which of its ends belong to it is a part of the operation.
-fn band_words(lo: End, hi: Upper, operand: u32) -> Words
-    ensures { decoded result.0 result.1 result.2 result.3 ≡ band_node lo hi operand }
+// The words that stand for a band: its operation, its operand, lo and hi. Which of its ends belong to it is a part of the operation.
+#[tactic(auto, unfolding(crate::specs::Stored::node_at, crate::specs::Stored::decoded))]
+fn band_words(lo: End, hi: Option<End>, operand: u32) -> [u32; 4]
+    ensures { node_at result 0 ≡ band_node lo hi operand }
 {
-    match hi {
-        Upper::Endless => match lo {
-            End::Closed(n) => Words(9, operand, n, 0),
-            End::Open(n) => Words(10, operand, n, 0),
-        },
-        Upper::UpTo(end) => match lo {
-            End::Closed(n) => match end {
-                End::Closed(m) => Words(11, operand, n, m),
-                End::Open(m) => Words(12, operand, n, m),
-            },
-            End::Open(n) => match end {
-                End::Closed(m) => Words(13, operand, n, m),
-                End::Open(m) => Words(14, operand, n, m),
-            },
-        },
+    match (lo, hi) {
+        (End::Closed(n), None) => [9, operand, n, 0],
+        (End::Open(n), None) => [10, operand, n, 0],
+        (End::Closed(n), Some(End::Closed(m))) => [11, operand, n, m],
+        (End::Closed(n), Some(End::Open(m))) => [12, operand, n, m],
+        (End::Open(n), Some(End::Closed(m))) => [13, operand, n, m],
+        (End::Open(n), Some(End::Open(m))) => [14, operand, n, m],
     }
 }
 
-// The words that stand for a node.
-fn words_of(node: Node) -> Words
-    ensures { decoded result.0 result.1 result.2 result.3 ≡ node }
+// The words that stand for a node: its operation, and up to three numbers.
+#[tactic(auto, unfolding(crate::specs::Stored::node_at, crate::specs::Stored::decoded))]
+fn words_of(node: Node) -> [u32; 4]
+    ensures { node_at result 0 ≡ node }
 {
     match node {
-        Node::Epsilon => Words(0, 0, 0, 0),
-        Node::Literal(sign, channel) => match sign {
-            Sign::High => Words(1, channel, 0, 0),
-            Sign::Low => Words(2, channel, 0, 0),
-            Sign::Rise => Words(3, channel, 0, 0),
-            Sign::Fall => Words(4, channel, 0, 0),
-        },
-        Node::Infix(join, left, right) => match join {
-            Join::Union => Words(5, left, right, 0),
-            Join::Intersection => Words(6, left, right, 0),
-            Join::Concatenation => Words(7, left, right, 0),
-        },
-        Node::Applied(op, operand) => match op {
-            Unary::Star => Words(8, operand, 0, 0),
-            Unary::Band(range) => {
-                let lo = range.lo;
-                let hi = range.hi;
-                band_words(lo, hi, operand)
-            }
-            Unary::Absence => Words(15, operand, 0, 0),
-        },
+        Node::Epsilon => [0; 4],
+        Node::Literal(Sign::High, channel) => [1, channel, 0, 0],
+        Node::Literal(Sign::Low, channel) => [2, channel, 0, 0],
+        Node::Literal(Sign::Rise, channel) => [3, channel, 0, 0],
+        Node::Literal(Sign::Fall, channel) => [4, channel, 0, 0],
+        Node::Infix(Join::Union, left, right) => [5, left, right, 0],
+        Node::Infix(Join::Intersection, left, right) => [6, left, right, 0],
+        Node::Infix(Join::Concatenation, left, right) => [7, left, right, 0],
+        Node::Applied(Unary::Star, operand) => [8, operand, 0, 0],
+        Node::Applied(Unary::Band(Range { lo, hi }), operand) => band_words(lo, hi, operand),
+        Node::Applied(Unary::Absence, operand) => [15, operand, 0, 0],
     }
 }
 
@@ -235,10 +184,6 @@ pub fn store(nodes: &mut [u32], n: u32, node: Node)
     requires { n * 4 + 4 ≤ length nodes.old }
     ensures { Placed n node nodes.old nodes.new }
 {
-    let i = widened(n) * 4;
-    let words = words_of(node);
-    nodes[i] = words.0;
-    nodes[i + 1] = words.1;
-    nodes[i + 2] = words.2;
-    nodes[i + 3] = words.3;
+    let i = n as usize * 4;
+    nodes[i..i + 4].copy_from_slice(&words_of(node));
 }

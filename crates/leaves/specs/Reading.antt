@@ -1,13 +1,9 @@
 -- What the readers of the grammar's levels, here and in `parser`, ask and promise each other. No contract of `parse` cites it.
-use Rattle.std.specs.Prelude.{◌≡◌, Bool, true, false, cond, ◌||◌, List, ℕ, suc, ◌+◌, ◌*◌, ◌<◌, ◌≤◌, max, eqb, ltb, length, drop}
+use Rattle.std.specs.Prelude.{Option, Some, None, ◌≡◌, Bool, true, false, cond, ◌||◌, List, ℕ, suc, ◌+◌, ◌*◌, ◌<◌, ◌≤◌, max, eqb, ltb, length, drop}
 use Rattle.expression.specs.declared.Range.{Range}
 use Rattle.expression.specs.declared.End.{End}
 use Rattle.expression.specs.declared.End.TheVariants.{Closed, Open}
-use Rattle.expression.specs.declared.Upper.{Upper}
-use Rattle.expression.specs.declared.Upper.TheVariants.{Endless, UpTo}
 use Rattle.trees.specs.declared.Tree.{Tree}
-use Rattle.leaves.specs.declared.Read.{Read}
-use Rattle.leaves.specs.declared.Read.TheVariants.{Part, Stop}
 use Rattle.expression.specs.declared.Unary.{Unary}
 use Rattle.expression.specs.declared.Unary.TheVariants.{Star, Band, Absence}
 use Rattle.expression.specs.Expression.{Expression, epsilon, literal, join, unary, depth}
@@ -35,9 +31,9 @@ abbrev pub opened : End → Bool
 opened (Closed n) = false
 opened (Open n) = true
 
-abbrev pub is_wrong_upper : End → Upper → Bool
-is_wrong_upper lo Endless = false
-is_wrong_upper lo (UpTo hi) = ltb 1000000 (figure hi) || (ltb (figure hi) (figure lo) || cond (eqb (figure lo) (figure hi)) (opened lo || opened hi) false)
+abbrev pub is_wrong_upper : End → Option End → Bool
+is_wrong_upper lo None = false
+is_wrong_upper lo (Some hi) = ltb 1000000 (figure hi) || (ltb (figure hi) (figure lo) || cond (eqb (figure lo) (figure hi)) (opened lo || opened hi) false)
 
 abbrev pub is_wrong_range : Range → Bool
 is_wrong_range r = ltb 1000000 (figure r.lo) || is_wrong_upper r.lo r.hi
@@ -77,6 +73,6 @@ pub record Reached (k : Rank) (rest : Expression → List ℕ → Got Expression
   pub read : descent k (drop at text) ≡ rest e (drop tree.at text)
 
 -- what the reader of a level makes of the text from `at` on, with `used` nodes stored before
-abbrev pub ReadAs : Rank → List ℕ → ℕ → ℕ → List ℕ → List ℕ → Read → Type 0
-ReadAs k text at used before after (Part tree) = Reached k yes text at used before after tree
-ReadAs k text at used before after Stop = descent k (drop at text) ≡ no
+abbrev pub ReadAs : Rank → List ℕ → ℕ → ℕ → List ℕ → List ℕ → Option Tree → Type 0
+ReadAs k text at used before after (Some tree) = Reached k yes text at used before after tree
+ReadAs k text at used before after None = descent k (drop at text) ≡ no

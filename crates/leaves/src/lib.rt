@@ -10,27 +10,17 @@ ghost use Rattle.descent.specs.Descent.{single};
 ghost use Rattle.leaves.specs.Reading.{Ready, ReadAs};
 
 use expression::Node;
-use tokens::Lettered;
 use trees::Tree;
 
-// What a reader of a level comes to.
-#[derive(Drop)]
-pub enum Read {
-    Part(Tree),
-    Stop,
-}
-
 // `_`, or a letter with its sign: a primary that no bracket opens.
-pub fn leaf(text: &[u8], at: usize, nodes: &mut [u32], used: u32) -> Read
+pub fn leaf(text: &[u8], at: usize, nodes: &mut [u32], used: u32) -> Option<Tree>
     requires { Ready text.now at nodes.old used × (starts 40 (drop at text.now) ≡ false) }
     ensures { ReadAs single text.now at used nodes.old nodes.new result }
 {
     if tokens::byte_is(text, at, b'_') {
-        return Read::Part(trees::leaf(nodes, used, at + 1, Node::Epsilon, 0));
+        return Some(trees::leaf(nodes, used, at + 1, Node::Epsilon, 0));
     }
-    let Lettered::Letter(end, sign, channel) = tokens::letter_at(text, at) else {
-        return Read::Stop;
-    };
+    let (end, sign, channel) = tokens::letter_at(text, at)?;
     let node = Node::Literal(sign, channel);
-    Read::Part(trees::leaf(nodes, used, end, node, channel + 1))
+    Some(trees::leaf(nodes, used, end, node, channel + 1))
 }

@@ -1,5 +1,6 @@
 -- What it means to satisfy an expression: equal times satisfy alike, a satisfying stretch runs forward, a letter is Definition 3's, and an event
 -- CR 3's.
+use Rattle.std.proofs.Common.{Option, Some, None}
 use mathlib.Core.Logic.{◌↔◌, ⊎_map, ⊎_elim}
 use mathlib.Core.List.{List}
 use Prim.Native.Nat.{ℕ, suc, ◌-◌, ◌<◌}
@@ -12,8 +13,7 @@ use Rattle.runs.specs.declared.Level.{Level}
 use Rattle.runs.specs.Levels.{Shows}
 use Rattle.runs.specs.Events.{Event}
 use Rattle.runs.proofs.Events.{event_inside}
-use Rattle.expression.specs.declared.Upper.{Upper}
-use Rattle.expression.specs.declared.Upper.TheVariants.{Endless, UpTo}
+use Rattle.expression.specs.declared.End.{End}
 use Rattle.expression.specs.declared.Sign.TheVariants.{High, Low, Rise, Fall}
 use Rattle.expression.specs.declared.Join.TheVariants.{Union, Intersection, Concatenation}
 use Rattle.expression.specs.declared.Unary.TheVariants.{Star, Band, Absence}
@@ -76,9 +76,9 @@ moment_is bytes channel a b = (
 
 -- ---- expressions
 
-no_longer_same : (hi : Upper) {x y u v : Time} → x ≈ᵀ u → y ≈ᵀ v → NoLonger hi x y → NoLonger hi u v
-no_longer_same Endless p q h = tt
-no_longer_same (UpTo hi) p q h = within_same (upper_limit hi) q p h
+no_longer_same : (hi : Option End) {x y u v : Time} → x ≈ᵀ u → y ≈ᵀ v → NoLonger hi x y → NoLonger hi u v
+no_longer_same None p q h = tt
+no_longer_same (Some hi) p q h = within_same (upper_limit hi) q p h
 
 module _ (Shows : ℕ → Level → ℕ → Type 0) where
   -- Equal times satisfy alike: 1/1 and 2/2 are one time everywhere.

@@ -1,5 +1,5 @@
 -- The stretches inside from..to that lie in the list of an expression are those that satisfy it.
-use Rattle.std.specs.Prelude.{Option, Some}
+use Rattle.std.specs.Prelude.{Option, Some, None}
 use mathlib.Core.Path.{◌≡◌, sym, subst}
 use mathlib.Core.Logic.Iff
 use mathlib.Core.Logic.{◌↔◌, ⊎_map, ⊎_elim}
@@ -30,8 +30,7 @@ use Rattle.runs.specs.declared.Run.{Run}
 use Rattle.runs.specs.Events.{Events}
 use Rattle.runs.proofs.Runs.{runs_unique, Complete, Held}
 use Rattle.expression.specs.declared.Range.{Range}
-use Rattle.expression.specs.declared.Upper.{Upper}
-use Rattle.expression.specs.declared.Upper.TheVariants.{Endless, UpTo}
+use Rattle.expression.specs.declared.End.{End}
 use Rattle.expression.specs.declared.Sign.TheVariants.{High, Low, Rise, Fall}
 use Rattle.expression.specs.declared.Join.TheVariants.{Union, Intersection, Concatenation}
 use Rattle.expression.specs.declared.Unary.TheVariants.{Star, Band, Absence}
@@ -125,9 +124,9 @@ moments_members {x = x} {y = y} p s =
 -- ---- a band
 
 -- "a missing hi" asks nothing of a stretch inside from..to
-longest_is : (hi : Upper) {from to : ℕ} {x y : Time} → from ≤ to → Stretch from to x y → Within (longest from to hi) y x ↔ NoLonger hi x y
-longest_is Endless h s = (λ _. tt, λ _. whole_most h s.0 s.1 s.2)
-longest_is (UpTo hi) h s = (λ w. w, λ w. w)
+longest_is : (hi : Option End) {from to : ℕ} {x y : Time} → from ≤ to → Stretch from to x y → Within (longest from to hi) y x ↔ NoLonger hi x y
+longest_is None h s = (λ _. tt, λ _. whole_most h s.0 s.1 s.2)
+longest_is (Some hi) h s = (λ w. w, λ w. w)
 
 -- The band handed to the zone layer is document 01's: of the stretches inside from..to it holds those with lo ≤ end − start ≤ hi, or < where it is written.
 pub range_band_lem : (r : Range) {from to : ℕ} {x y : Time} → from ≤ to → Stretch from to x y → InMaybe (range_band from to r) x y ↔ Lasts r x y

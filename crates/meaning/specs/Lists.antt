@@ -1,6 +1,6 @@
 -- The list of an expression and its rounds: "The list of an operator is built from the finished lists of its operands, the left one finished
 -- before the right one is begun". Of ticks from..to and any levels.
-use Rattle.std.specs.Prelude.{◌≡◌, List, [], ◌∷◌, ◌++◌, map, ℕ, ◌+◌, ◌-◌, Option, Some}
+use Rattle.std.specs.Prelude.{◌≡◌, List, [], ◌∷◌, ◌++◌, map, ℕ, ◌+◌, ◌-◌, Option, Some, None}
 use Rattle.zone.specs.declared.Zone.{Zone}
 use Rattle.limit.specs.declared.Limit.{Limit}
 use Rattle.limit.specs.Limit.{most}
@@ -16,8 +16,7 @@ use Rattle.runs.specs.declared.Run.{Run}
 use Rattle.runs.specs.Runs.{Runs}
 use Rattle.runs.specs.Events.{Events}
 use Rattle.expression.specs.declared.Range.{Range}
-use Rattle.expression.specs.declared.Upper.{Upper}
-use Rattle.expression.specs.declared.Upper.TheVariants.{Endless, UpTo}
+use Rattle.expression.specs.declared.End.{End}
 use Rattle.expression.specs.declared.Sign.TheVariants as sign
 use Rattle.expression.specs.declared.Sign.TheVariants.{Rise, Fall}
 use Rattle.expression.specs.declared.Join.{Join}
@@ -59,9 +58,9 @@ pub record Moments (P Q : ℕ → Type 0) (from to : ℕ) (v : Value) : Type 0 w
   pub built : v ≡ ended (insert_each (moment_zones at) [])
 
 -- the limit of a band on end − start; a missing hi is to − from, reached, which no stretch exceeds
-abbrev pub longest : ℕ → ℕ → Upper → Limit
-longest from to Endless = most (to - from)
-longest from to (UpTo hi) = upper_limit hi
+abbrev pub longest : ℕ → ℕ → Option End → Limit
+longest from to None = most (to - from)
+longest from to (Some hi) = upper_limit hi
 
 -- "The band's meet now carries a reached or not reached limit on either end"
 abbrev pub range_band : ℕ → ℕ → Range → Option Zone

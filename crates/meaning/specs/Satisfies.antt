@@ -1,6 +1,6 @@
 -- "What a stretch satisfies": Definition 3 of document 004, of events CR 3 and of absence CR 7, over any levels and all times. `Shows k level n` says that
 -- channel k has the level in tick n.
-use Rattle.std.specs.Prelude.{◌⊎◌, ℕ, suc}
+use Rattle.std.specs.Prelude.{Option, Some, None, ◌⊎◌, ℕ, suc}
 use Rattle.limit.specs.Time.{Time, at_tick, ◌≤ᵀ◌, ◌<ᵀ◌, ◌≈ᵀ◌}
 use Rattle.limit.specs.declared.Limit.{Limit}
 use Rattle.limit.specs.Limit.{Within, most, least, less, more}
@@ -11,8 +11,6 @@ use Rattle.runs.specs.Events.{Event}
 use Rattle.expression.specs.declared.Range.{Range}
 use Rattle.expression.specs.declared.End.{End}
 use Rattle.expression.specs.declared.End.TheVariants.{Closed, Open}
-use Rattle.expression.specs.declared.Upper.{Upper}
-use Rattle.expression.specs.declared.Upper.TheVariants.{Endless, UpTo}
 use Rattle.expression.specs.declared.Sign.TheVariants as sign
 use Rattle.expression.specs.declared.Sign.TheVariants.{Rise, Fall}
 use Rattle.expression.specs.declared.Join.TheVariants.{Union, Intersection, Concatenation}
@@ -42,9 +40,9 @@ lower_limit (Closed n) = least n
 lower_limit (Open n) = more n
 
 -- "end − start ≤ hi", or < hi; "hi may be missing, meaning no upper limit"
-abbrev pub NoLonger : Upper → Time → Time → Type 0
-NoLonger Endless x y = Unit {0}
-NoLonger (UpTo hi) x y = Within (upper_limit hi) y x
+abbrev pub NoLonger : Option End → Time → Time → Type 0
+NoLonger None x y = Unit {0}
+NoLonger (Some hi) x y = Within (upper_limit hi) y x
 
 -- "lo ≤ end − start ≤ hi", with < for an end that has one
 abbrev pub Lasts : Range → Time → Time → Type 0

@@ -1,4 +1,5 @@
 -- What a node adds to a part that is read, of the joins and of the operators with one operand; and what brackets add.
+use Rattle.std.proofs.Common.{Option, Some, None}
 use mathlib.Core.Path.{◌≡◌, refl, sym, ap, ◌∙◌}
 use mathlib.Core.Bool.{Bool, true, false}
 use mathlib.Core.List.{List}
@@ -6,8 +7,6 @@ use Prim.Native.Nat.{ℕ, ◌+◌, ◌*◌, ◌<◌, ◌≤◌}
 use native.Mathlib.Omega.{arith}
 use lib.ListN.{length, drop}
 use Rattle.trees.specs.declared.Tree.{Tree}
-use Rattle.leaves.specs.declared.Read.{Read}
-use Rattle.leaves.specs.declared.Read.TheVariants.{Part, Stop}
 use Rattle.expression.specs.declared.Node.TheVariants.{Infix, Applied}
 use Rattle.expression.specs.declared.Join.{Join}
 use Rattle.expression.specs.declared.Join.TheVariants.{Union}
@@ -93,10 +92,10 @@ module _ (j : Join) where
 module _ (text : List ℕ) (at : ℕ) where
   -- no `~`: a factor is its repeat
   pub untilded_as : (used : ℕ) (before ns : List ℕ) → starts 126 (drop at text) ≡ false
-      → (r : Read) → ReadAs repeating text at used before ns r → ReadAs factoring text at used before ns r
+      → (r : Option Tree) → ReadAs repeating text at used before ns r → ReadAs factoring text at used before ns r
   unfolding branch
-  untilded_as used before ns m Stop e = factoring_is (drop at text) ∙ rw m e
-  untilded_as used before ns m (Part t) s = again s s.kept (factoring_is (drop at text) ∙ rw m s.read)
+  untilded_as used before ns m None e = factoring_is (drop at text) ∙ rw m e
+  untilded_as used before ns m (Some t) s = again s s.kept (factoring_is (drop at text) ∙ rw m s.read)
 
   -- a `~`
   module _ (m : starts 126 (drop at text) ≡ true) (l : at < length text) where
@@ -152,10 +151,10 @@ module _ (text : List ℕ) (at : ℕ) (m : starts 40 (drop at text) ≡ true) (l
 
   -- what follows the inner part decides
   pub bracketed_as : {used : ℕ} {before ns : List ℕ} {inner : Tree} → Reached (joining Union) yes text (at + 1) used before ns inner
-      → (r : Read) → ClosedAs text inner r → ReadAs single text at used before ns r
+      → (r : Option Tree) → ClosedAs text inner r → ReadAs single text at used before ns r
   unfolding bind expect branch
-  bracketed_as {inner = inner} s Stop e = bracketed ∙ rw s.read (rw e)
-  bracketed_as {inner = inner} s (Part t) (e, h, is) =
+  bracketed_as {inner = inner} s None e = bracketed ∙ rw s.read (rw e)
+  bracketed_as {inner = inner} s (Some t) (e, h, is) =
       rw is
       (record {
         ahead = omega (arith, s.ahead);

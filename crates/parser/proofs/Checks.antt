@@ -1,4 +1,5 @@
 -- The three sums that the readers keep, against the letters and the ranges of an expression.
+use Rattle.std.proofs.Common.{Option, Some, None}
 use mathlib.Core.Path.{◌≡◌, refl, sym, ap, ◌∙◌}
 use mathlib.Core.Bool.{Bool, true, false, cond, ◌||◌}
 use mathlib.Core.List.Memᴰ
@@ -11,22 +12,19 @@ use borrow.Author.Tests.{ltb-true, ltb-false, eqb-true, lt-ltb, le-ltb, eq-eqb}
 use Rattle.expression.specs.declared.Range.{Range}
 use Rattle.expression.specs.declared.End.{End}
 use Rattle.expression.specs.declared.End.TheVariants.{Closed, Open}
-use Rattle.expression.specs.declared.Upper.{Upper}
-use Rattle.expression.specs.declared.Upper.TheVariants.{Endless, UpTo}
 use Rattle.expression.specs.declared.Unary.{Unary}
 use Rattle.expression.specs.declared.Unary.TheVariants.{Star, Band, Absence}
 use Rattle.expression.specs.Expression.{Expression, epsilon, literal, join, unary, letters, ranges}
 use Rattle.expression.specs.Refusal.{figure, Opened, WrongUpper, Wrong}
 use Rattle.tokens.specs.Tokens.{cap, capped_end, capped_upper, capped_range, capped_unary}
 use Rattle.leaves.specs.Reading.{capped, width, opened, is_wrong_upper, is_wrong_range, is_wrong_unary, wrong}
-use Rattle.expression.proofs.Ranges.{false_true}
 
 or_some : (a b : Bool) → (a || b) ≡ true → (a ≡ true) ⊎ (b ≡ true)
 or_some true b e = inl refl
 or_some false b e = inr e
 
 or_none : (a b : Bool) → (a || b) ≡ false → (a ≡ false) × (b ≡ false)
-or_none true b e = absurd (false_true (sym e))
+or_none true b e = cc
 or_none false b e = (refl, e)
 
 -- LETTERS
@@ -66,12 +64,12 @@ letter_beyond (unary u e) c h = letter_beyond e c h
 -- RANGES
 
 opened_some : (e : End) → opened e ≡ true → Opened e
-opened_some (Closed n) h = absurd (false_true h)
+opened_some (Closed n) h = cc
 opened_some (Open n) h = tt
 
 opened_none : (e : End) → opened e ≡ false → Opened e → ⊥
 opened_none (Closed n) h o = o
-opened_none (Open n) h o = false_true (sym h)
+opened_none (Open n) h o = cc
 
 -- equal ends, with a `<` on either
 module _ (lo hi : End) where
@@ -80,23 +78,23 @@ module _ (lo hi : End) where
     where
       go : (b : Bool) → eqb (figure lo) (figure hi) ≡ b → cond b (opened lo || opened hi) false ≡ true → (figure lo ≡ figure hi) × (Opened lo ⊎ Opened hi)
       go true e h = (eqb-true _ _ e, ⊎_elim (λ o. inl (opened_some lo o)) (λ o. inr (opened_some hi o)) (or_some _ _ h))
-      go false e h = absurd (false_true h)
+      go false e h = cc
 
   equal_none : cond (eqb (figure lo) (figure hi)) (opened lo || opened hi) false ≡ false → figure lo ≡ figure hi → Opened lo ⊎ Opened hi → ⊥
   equal_none h e o =
       let p = or_none _ _ (rw (eq-eqb _ _ e) at h) in
       ⊎_elim (λ a. opened_none lo p.0 a) (λ a. opened_none hi p.1 a) o
 
-wrong_upper_some : (lo : End) (hi : Upper) → is_wrong_upper lo hi ≡ true → WrongUpper lo hi
-wrong_upper_some lo Endless e = absurd (false_true e)
-wrong_upper_some lo (UpTo hi) e =
+wrong_upper_some : (lo : End) (hi : Option End) → is_wrong_upper lo hi ≡ true → WrongUpper lo hi
+wrong_upper_some lo None e = cc
+wrong_upper_some lo (Some hi) e =
     ⊎_elim (λ a. inl (ltb-true _ _ a)) (λ b. inr (⊎_elim (λ a. inl (ltb-true _ _ a)) (λ a. inr (equal_some lo hi a)) (or_some _ _ b))) (or_some _ _ e)
 
-wrong_upper_none : (lo : End) (hi : Upper) → is_wrong_upper lo hi ≡ false → WrongUpper lo hi → ⊥
-wrong_upper_none lo Endless e w = w
-wrong_upper_none lo (UpTo hi) e w =
-    let p = or_none _ _ e in
-    let q = or_none _ _ p.1 in
+wrong_upper_none : (lo : End) (hi : Option End) → is_wrong_upper lo hi ≡ false → WrongUpper lo hi → ⊥
+wrong_upper_none lo None e w = w
+wrong_upper_none lo (Some hi) e w =
+    let p = or_none (ltb 1000000 (figure hi)) (ltb (figure hi) (figure lo) || cond (eqb (figure lo) (figure hi)) (opened lo || opened hi) false) e in
+    let q = or_none (ltb (figure hi) (figure lo)) (cond (eqb (figure lo) (figure hi)) (opened lo || opened hi) false) p.1 in
     ⊎_elim (λ a. omega (arith, ltb-false 1000000 (figure hi) p.0))
     (λ v. ⊎_elim (λ a. omega (arith, ltb-false (figure hi) (figure lo) q.0)) (λ a. equal_none lo hi q.1 a.0 a.1) v)
     w
@@ -120,18 +118,18 @@ wrong_is r b h = go b (is_wrong_range r) h refl
     go false false h e = refl
 
 -- some range of the list is wrong
-abbrev Some : List Range → Type 0
-Some rs = (r : Range) × Memᴰ r rs × Wrong r
+abbrev SomeWrong : List Range → Type 0
+SomeWrong rs = (r : Range) × Memᴰ r rs × Wrong r
 
-join_some : (e f : Expression) → (wrong e ≡ true → Some (ranges e)) → (wrong f ≡ true → Some (ranges f)) → (wrong e || wrong f) ≡ true → Some (ranges e ++ ranges f)
+join_some : (e f : Expression) → (wrong e ≡ true → SomeWrong (ranges e)) → (wrong f ≡ true → SomeWrong (ranges f)) → (wrong e || wrong f) ≡ true → SomeWrong (ranges e ++ ranges f)
 join_some e f p q h =
     ⊎_elim (λ w. let a = p w in (a.0, Memᴰ.append_left (ranges f) a.1, a.2)) (λ w. let a = q w in (a.0, Memᴰ.append_right (ranges e) a.1, a.2))
     (or_some _ _ h)
 
-pub range_wrong : (e : Expression) → wrong e ≡ true → Some (ranges e)
+pub range_wrong : (e : Expression) → wrong e ≡ true → SomeWrong (ranges e)
 unfolding ranges wrong
-range_wrong epsilon h = absurd (false_true h)
-range_wrong (literal s k) h = absurd (false_true h)
+range_wrong epsilon h = cc
+range_wrong (literal s k) h = cc
 range_wrong (join j e f) h = join_some e f (λ a. range_wrong e a) (λ a. range_wrong f a) h
 range_wrong (unary Star e) h = range_wrong e h
 range_wrong (unary (Band r) e) h =
@@ -180,9 +178,9 @@ opened_capped (Open n) = refl
 capped_wrong : (r : Range) → is_wrong_range (capped_range r) ≡ is_wrong_range r
 capped_wrong r = go r.lo r.hi
   where
-    go : (lo : End) (hi : Upper) → (ltb 1000000 (figure (capped_end lo)) || is_wrong_upper (capped_end lo) (capped_upper hi)) ≡ (ltb 1000000 (figure lo) || is_wrong_upper lo hi)
-    go lo Endless = rw (figure_capped lo, cap_over)
-    go lo (UpTo hi) = rw (figure_capped lo, figure_capped hi, opened_capped lo, opened_capped hi) (by (figure lo) (figure hi) (ltb 1000000 (figure lo)) (ltb 1000000 (figure hi)) refl refl)
+    go : (lo : End) (hi : Option End) → (ltb 1000000 (figure (capped_end lo)) || is_wrong_upper (capped_end lo) (capped_upper hi)) ≡ (ltb 1000000 (figure lo) || is_wrong_upper lo hi)
+    go lo None = rw (figure_capped lo, cap_over)
+    go lo (Some hi) = rw (figure_capped lo, figure_capped hi, opened_capped lo, opened_capped hi) (by (figure lo) (figure hi) (ltb 1000000 (figure lo)) (ltb 1000000 (figure hi)) refl refl)
       where
         by : (m n : ℕ) (a b : Bool) → ltb 1000000 m ≡ a → ltb 1000000 n ≡ b
             → (ltb 1000000 (cap m) || (ltb 1000000 (cap n) || (ltb (cap n) (cap m) || cond (eqb (cap m) (cap n)) (opened lo || opened hi) false)))
@@ -201,9 +199,9 @@ capped_end_lem : (e : End) → ltb 1000000 (figure e) ≡ false → capped_end e
 capped_end_lem (Closed n) h = ap Closed (cap_same n h)
 capped_end_lem (Open n) h = ap Open (cap_same n h)
 
-capped_upper_lem : (lo : End) (hi : Upper) → is_wrong_upper lo hi ≡ false → capped_upper hi ≡ hi
-capped_upper_lem lo Endless e = refl
-capped_upper_lem lo (UpTo hi) e = ap UpTo (capped_end_lem hi (or_none _ _ e).0)
+capped_upper_lem : (lo : End) (hi : Option End) → is_wrong_upper lo hi ≡ false → capped_upper hi ≡ hi
+capped_upper_lem lo None e = refl
+capped_upper_lem lo (Some hi) e = ap Some (capped_end_lem hi (or_none _ _ e).0)
 
 -- what is stored of an expression without a wrong range is the expression itself
 pub capped_same : (e : Expression) → wrong e ≡ false → capped e ≡ e

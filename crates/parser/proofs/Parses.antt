@@ -1,4 +1,5 @@
 -- Which answer a text has: from what descent comes to, and from the readers' part, to the first cause that holds.
+use Rattle.std.proofs.Common.{Ok, Err}
 use mathlib.Core.Path.{◌≡◌, refl, sym, ap, ◌∙◌}
 use mathlib.Core.Bool.{Bool, true, false, cond}
 use mathlib.Core.List.{List, [], ◌∷◌}
@@ -9,7 +10,7 @@ use lib.Dec.{ltb}
 use lib.ListN.{length, drop, drop_of_length-le, length-drop}
 use borrow.Author.Tests.{ltb-true, ltb-false}
 use Rattle.trees.specs.declared.Tree.{Tree}
-use Rattle.parser.specs.declared.Parsed.TheVariants.{Root, NoForm, WrongLetter, WrongRange, TooDeep}
+use Rattle.parser.specs.declared.Fault.TheVariants.{NoForm, WrongLetter, WrongRange, TooDeep}
 use Rattle.expression.specs.declared.Join.TheVariants.{Union}
 use Rattle.expression.specs.Expression.{Expression, depth}
 use Rattle.expression.specs.Grammar.{Form, alternative}
@@ -118,7 +119,7 @@ module _ {text before ns : List ℕ} {tree : Tree} (s : Reached (joining Union) 
       six q = omega (arith, ltb-false channels tree.width q, s.width_is)
 
       go : (a b c d : Bool) → ltb tree.at (length text) ≡ a → ltb channels tree.width ≡ b → tree.wrong ≡ c → ltb 16 tree.depth ≡ d
-          → ParsedAs text channels ns (cond a NoForm (cond b WrongLetter (cond c WrongRange (cond d TooDeep (Root tree.root)))))
+          → ParsedAs text channels ns (cond a (Err NoForm) (cond b (Err WrongLetter) (cond c (Err WrongRange) (cond d (Err TooDeep) (Ok tree.root)))))
       go true b c d p q r t = refused_part right s.read (leaves_some (ltb-true _ _ p))
       go false true c d p q r t = refused_letter right (whole p) (omega (arith, ltb-true channels tree.width q, s.width_is))
       go false false true d p q r t = refused_range right (whole p) (six q) (sym s.wrong_is ∙ r)

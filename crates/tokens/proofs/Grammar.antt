@@ -1,4 +1,5 @@
 -- Numbers and ranges: what is read of them is of the grammar, and what is of the grammar is read.
+use Rattle.std.proofs.Common.{Option, Some}
 use mathlib.Core.Path.{◌≡◌, sym, ap, subst, ◌∙◌, refl}
 use mathlib.Core.List.{List, [], ◌∷◌, ◌++◌, append_assoc, append-nil}
 use mathlib.Core.Logic.{⊎_elim}
@@ -10,8 +11,6 @@ use borrow.Author.Tests.{ltb-true, ltb-false, lt-ltb, le-ltb, ne_eqb}
 use Rattle.expression.specs.declared.Range.{Range}
 use Rattle.expression.specs.declared.End.{End}
 use Rattle.expression.specs.declared.End.TheVariants.{Closed, Open}
-use Rattle.expression.specs.declared.Upper.{Upper}
-use Rattle.expression.specs.declared.Upper.TheVariants.{UpTo}
 use Rattle.expression.specs.Grammar.{Number, digit, digit_after, Bound, reached, not_reached, Limits, from, between}
 use Rattle.tokens.specs.Tokens.{yes, bind, rest, expect, ranged, digits, numeral, numbered, bound, upper_end, limits, no, branch, starts}
 use Rattle.tokens.proofs.Text.{no_yes, yes_text, yes_value, bind_yes, branch_split, starts_is}
@@ -86,7 +85,7 @@ bound_sound s x r e =
     (λ p. let h = numbered_sound Closed s x r p.1 in (h.0, h.1, subst (Bound h.0) h.4 (reached h.3)))
     (branch_split _ _ _ e)
 
-upper_sound : (s w : List ℕ) (lo : End) (x : Upper) (r : List ℕ) → upper_end s ≡ yes x r → Bound w lo
+upper_sound : (s w : List ℕ) (lo : End) (x : Option End) (r : List ℕ) → upper_end s ≡ yes x r → Bound w lo
     → (u : List ℕ) × ((44 ∷ s) ≡ u ++ (125 ∷ r)) × Limits (w ++ u) (record { lo = lo; hi = x })
 unfolding upper_end
 upper_sound s w lo x r e f =
@@ -94,15 +93,15 @@ upper_sound s w lo x r e f =
     (λ p. (
       44 ∷ [],
       ap (λ (y : List ℕ). 44 ∷ y) (starts_is 125 s p.0 ∙ ap (λ (y : List ℕ). 125 ∷ y) (yes_text p.1)),
-      subst (λ (y : Upper). Limits (w ++ (44 ∷ [])) (record { lo = lo; hi = y })) (yes_value p.1) (from f),
+      subst (λ (y : Option End). Limits (w ++ (44 ∷ [])) (record { lo = lo; hi = y })) (yes_value p.1) (from f),
     ))
     (λ p.
     let b = bind_yes _ _ p.1 in
     let h = bound_sound s b.0 b.1 b.2 in
-    let k = expect_sound 125 (UpTo b.0) b.1 x r b.3 in (
+    let k = expect_sound 125 (Some b.0) b.1 x r b.3 in (
       44 ∷ h.0,
       ap (λ (y : List ℕ). 44 ∷ y) (h.1 ∙ ap (λ (y : List ℕ). h.0 ++ y) k.1),
-      subst (λ (y : Upper). Limits (w ++ (44 ∷ h.0)) (record { lo = lo; hi = y })) k.0 (between f h.2),
+      subst (λ (y : Option End). Limits (w ++ (44 ∷ h.0)) (record { lo = lo; hi = y })) k.0 (between f h.2),
     ))
     (branch_split _ _ _ e)
 
@@ -175,7 +174,7 @@ bound_head : {u : List ℕ} {x : End} → Bound u x → (c : ℕ) × (v : List �
 bound_head (reached f) = let g = number_head f in (g.0, g.1, g.2, omega (arith, g.3))
 bound_head (not_reached {s = s} f) = (60, s, refl, omega arith)
 
-upper_complete : {u : List ℕ} {x : End} → Bound u x → (r : List ℕ) → upper_end (u ++ (125 ∷ r)) ≡ yes (UpTo x) r
+upper_complete : {u : List ℕ} {x : End} → Bound u x → (r : List ℕ) → upper_end (u ++ (125 ∷ r)) ≡ yes (Some x) r
 unfolding upper_end branch bind expect starts rest ranged
 upper_complete {u} {x} f r =
     let g = bound_head f in

@@ -1,26 +1,25 @@
 -- Numbers and ranges, read from a place of the text.
+use Rattle.std.proofs.Common.{Option, Some, None}
 use mathlib.Core.Path.{◌≡◌, refl, sym, ap, ◌∙◌}
-use mathlib.Core.Bool.{true, false}
+use mathlib.Core.Bool.{false}
 use mathlib.Core.List.{List, [], ◌∷◌}
-use Prim.Native.Nat.{ℕ, ◌+◌, ◌*◌, ◌<◌, ◌≤◌}
+use Prim.Native.Nat.{ℕ, ◌+◌, ◌*◌, ◌<◌, ◌≤◌, min}
 use native.Mathlib.Omega.{arith}
 use lib.ListN.{length, drop}
-use Rattle.expression.specs.declared.Upper.{Upper}
 use Rattle.expression.specs.declared.End.{End}
 use Rattle.expression.specs.declared.End.TheVariants.{Closed, Open}
-use Rattle.expression.specs.declared.Upper.TheVariants.{Endless, UpTo}
 use Rattle.tokens.specs.Tokens.{no, yes, branch, bind, starts, expect, ranged, digits, numeral, numbered, bound, upper_end, limits, cap, capped_end, capped_upper, capped_range, Got-at}
-use Rattle.tokens.specs.Readers.{Offset-at}
-use Rattle.tokens.proofs.Text.{rest_drop}
+use Rattle.tokens.specs.Readers.{Past, Offset-at, OffsetAs}
+use Rattle.tokens.proofs.Text.{rest_past}
 use Rattle.tokens.proofs.Grammar.{ranged_sound, digits_on, digits_off}
 
-pub cap_small : (n : ℕ) → n < 1000001 → n ≡ cap n
+cap_small : (n : ℕ) → n < 1000001 → n ≡ cap n
 unfolding cap
 cap_small n h = omega arith
 
-pub cap_large : (n : ℕ) → 1000001 ≤ n → 1000001 ≡ cap n
+pub cap_is : (n m : ℕ) → m ≡ min n 1000001 → m ≡ cap n
 unfolding cap
-cap_large n h = omega arith
+cap_is n m e = e
 
 cap_step : (m d : ℕ) → d < 10 → cap (cap m * 10 + d) ≡ cap (m * 10 + d)
 unfolding cap
@@ -69,8 +68,10 @@ counts_zero {text} {pos = pos} s h =
     let z : s.size ≡ 0 = cap_zero s.size (omega (arith, s.is)) in
     counted s (rw z (digits_zero (drop pos text)))
 
-pub counts_off : {text : List ℕ} {at pos v : ℕ} → Counted text at pos v → ranged 48 10 (drop pos text) ≡ no → Got-at numeral cap text at pos v
-counts_off {text} {pos = pos} s e = counted s (digits_off s.size (drop pos text) e)
+-- no digit follows
+pub counts_end : {text : List ℕ} {at pos v : ℕ} → Counted text at pos v → (r : Option ℕ) → OffsetAs 48 10 text pos r → r ≡ None → Got-at numeral cap text at pos v
+counts_end s (Some k) o e = cc
+counts_end {text} {pos = pos} s None o e = counted s (digits_off s.size (drop pos text) o)
 
 pub counts_on : {text : List ℕ} {at pos v w d : ℕ} → Counted text at pos v → 0 < v → Offset-at 48 10 text pos d → w ≡ cap (v * 10 + d) → Counted text at (pos + 1) w
 counts_on {text} {pos = pos} {v = v} {d = d} s h o e =
@@ -110,29 +111,30 @@ module _ (text : List ℕ) (at : ℕ) (plain : starts 60 (drop at text) ≡ fals
   closed_is n = let m = numbered_is Closed (λ n. refl) text at n in record { ahead = m.ahead; inside = m.inside; x = m.x; is = m.is; read = bound_plain ∙ m.read }
 
 -- one does
-module _ (text : List ℕ) (at : ℕ) (sign : starts 60 (drop at text) ≡ true) (inside : at < length text) where
-  bound_sign : bound (drop at text) ≡ numbered Open (drop (at + 1) text)
+module _ (text : List ℕ) (at : ℕ) {s : ℕ} (sign : Past 60 text at s) where
+  bound_sign : bound (drop at text) ≡ numbered Open (drop s text)
   unfolding bound branch
-  bound_sign = rw (sign, rest_drop text at inside)
+  bound_sign = rw (sign.here, rest_past text at sign)
 
-  pub open_none : numeral (drop (at + 1) text) ≡ no → bound (drop at text) ≡ no
-  open_none e = bound_sign ∙ numbered_none Open (λ n. refl) text (at + 1) e
+  pub open_none : numeral (drop s text) ≡ no → bound (drop at text) ≡ no
+  open_none e = bound_sign ∙ numbered_none Open (λ n. refl) text s e
 
-  pub open_is : {a v : ℕ} → Got-at numeral cap text (at + 1) a v → Got-at bound capped_end text at a (Open v)
+  pub open_is : {a v : ℕ} → Got-at numeral cap text s a v → Got-at bound capped_end text at a (Open v)
   open_is n =
-      let m = numbered_is Open (λ n. refl) text (at + 1) n in
-      record { ahead = omega (arith, m.ahead); inside = m.inside; x = m.x; is = m.is; read = bound_sign ∙ m.read }
+      let m = numbered_is Open (λ n. refl) text s n in
+      record { ahead = omega (arith, sign.next, m.ahead); inside = m.inside; x = m.x; is = m.is; read = bound_sign ∙ m.read }
 
 -- RANGES
 
 -- the closing brace stands where hi may
-pub upper_endless : {text : List ℕ} {at : ℕ} → starts 125 (drop at text) ≡ true → at < length text → Got-at upper_end capped_upper text at (at + 1) Endless
+pub upper_endless : {text : List ℕ} {at a : ℕ} → Past 125 text at a → Got-at upper_end capped_upper text at a None
 unfolding upper_end branch
-upper_endless {text} {at} e h = record { ahead = omega arith; inside = omega arith; x = Endless; is = refl; read = rw (e, rest_drop text at h) }
+upper_endless {text} {at} p =
+    record { ahead = omega (arith, p.next); inside = omega (arith, p.next, p.inside); x = None; is = refl; read = rw (p.here, rest_past text at p) }
 
 -- it does not
 module _ (text : List ℕ) (at : ℕ) (more : starts 125 (drop at text) ≡ false) where
-  upper_is : upper_end (drop at text) ≡ bind (bound (drop at text)) (λ e r. expect 125 (UpTo e) r)
+  upper_is : upper_end (drop at text) ≡ bind (bound (drop at text)) (λ e r. expect 125 (Some e) r)
   unfolding upper_end branch
   upper_is = rw more
 
@@ -146,15 +148,15 @@ module _ (text : List ℕ) (at : ℕ) (more : starts 125 (drop at text) ≡ fals
     unfolding bind expect branch
     upper_unclosed e = upper_is ∙ rw m.read (rw e)
 
-    pub upper_closed : starts 125 (drop b text) ≡ true → b < length text → Got-at upper_end capped_upper text at (b + 1) (UpTo w)
+    pub upper_closed : {a : ℕ} → Past 125 text b a → Got-at upper_end capped_upper text at a (Some w)
     unfolding bind expect branch
-    upper_closed e h =
+    upper_closed p =
         record {
-          ahead = omega (arith, m.ahead);
-          inside = omega arith;
-          x = UpTo m.x;
-          is = ap UpTo m.is;
-          read = upper_is ∙ rw m.read (rw (e, rest_drop text b h));
+          ahead = omega (arith, m.ahead, p.next);
+          inside = omega (arith, p.next, p.inside);
+          x = Some m.x;
+          is = ap Some m.is;
+          read = upper_is ∙ rw m.read (rw (p.here, rest_past text b p));
         }
 
 pub range_none : (s : List ℕ) → bound s ≡ no → limits s ≡ no
@@ -168,20 +170,20 @@ module _ {text : List ℕ} {at a : ℕ} {v : End} (n : Got-at bound capped_end t
   range_stops e = rw n.read (rw e)
 
   -- the comma is there
-  module _ (comma : starts 44 (drop a text) ≡ true) (inside : a < length text) where
-    range_on : limits (drop at text) ≡ bind (upper_end (drop (a + 1) text)) (λ u p. yes (record { lo = n.x; hi = u }) p)
+  module _ {s : ℕ} (comma : Past 44 text a s) where
+    range_on : limits (drop at text) ≡ bind (upper_end (drop s text)) (λ u p. yes (record { lo = n.x; hi = u }) p)
     unfolding limits bind expect branch
-    range_on = rw n.read (rw (comma, rest_drop text a inside))
+    range_on = rw n.read (rw (comma.here, rest_past text a comma))
 
-    pub range_open : upper_end (drop (a + 1) text) ≡ no → limits (drop at text) ≡ no
+    pub range_open : upper_end (drop s text) ≡ no → limits (drop at text) ≡ no
     unfolding bind
     range_open e = range_on ∙ rw e
 
-    pub range_is : {b : ℕ} {u : Upper} → Got-at upper_end capped_upper text (a + 1) b u → Got-at limits capped_range text at b (record { lo = v; hi = u })
+    pub range_is : {b : ℕ} {u : Option End} → Got-at upper_end capped_upper text s b u → Got-at limits capped_range text at b (record { lo = v; hi = u })
     unfolding bind
     range_is u =
         record {
-          ahead = omega (arith, n.ahead, u.ahead);
+          ahead = omega (arith, n.ahead, comma.next, u.ahead);
           inside = u.inside;
           x = record { lo = n.x; hi = u.x };
           is = rw (n.is, u.is);

@@ -1,6 +1,10 @@
 -- What a text begins with, and the text from a place on.
-use mathlib.Core.Path.{◌≡◌, refl, sym, ap}
-use mathlib.Core.Bool.{Bool, true, false, not}
+use Rattle.std.proofs.Common.{Option, Some, None, Bor, MatchOption}
+use Rattle.std.specs.Option.{option_copied}
+use Rattle.std.specs.List.{HoldsAt}
+use Rattle.std.proofs.lemmas.Option.{same_Some}
+use mathlib.Core.Path.{◌≡◌, refl, ap, ◌∙◌}
+use mathlib.Core.Bool.{Bool, true, false}
 use mathlib.Core.List.{List, [], ◌∷◌}
 use mathlib.Core.Logic.{◌⊎◌, inl, inr}
 use Prim.Native.Nat.{ℕ, ◌+◌, ◌-◌, ◌<◌, ◌≤◌}
@@ -10,9 +14,8 @@ use lib.Dec.{eqb}
 use lib.ListN.{length, get_or, drop, drop_of_length-le}
 use lib.Seq.{drop-cons}
 use borrow.Author.Tests.{eqb-true, lt-ltb, le-ltb}
-use Rattle.expression.proofs.Ranges.{false_true}
 use Rattle.tokens.specs.Tokens.{Got, no, yes, branch, bind, starts, rest, ranged, Seen}
-use Rattle.tokens.specs.Readers.{Offset-at}
+use Rattle.tokens.specs.Readers.{Past, Offset-at}
 
 pub no_yes : {A : Type 0} {x : A} {r : List ℕ} → no ≡ yes x r → ⊥
 no_yes e = let z : ◌≡◌ {A = ℕ} 0 1 = cc in omega arith
@@ -40,20 +43,23 @@ head text at h = rw add-one (drop-cons text at 0 h)
 
 pub starts_is : (c : ℕ) (s : List ℕ) → starts c s ≡ true → s ≡ c ∷ rest s
 unfolding starts rest
-starts_is c [] e = absurd (false_true e)
+starts_is c [] e = cc
 starts_is c (b ∷ s) e = ap (λ (x : ℕ). x ∷ s) (eqb-true b c e)
 
 pub starts_shorter : (c : ℕ) (s : List ℕ) → starts c s ≡ true → length (rest s) < length s
 starts_shorter c s e = omega (arith, ap length (starts_is c s e))
 
--- the tests `!b`
-pub not_true : (b : Bool) → not b ≡ true → b ≡ false
-not_true true e = absurd (false_true e)
-not_true false e = refl
+-- what `text.get(at).copied()` tells: the byte there, or that the text ends before
+abbrev Looked : List ℕ → ℕ → Option (Bor ℕ) → Type 0
+Looked text at o = MatchOption o (length text ≤ at) (λ x. (at < length text) × HoldsAt (λ y. x.now ≡ y) text at)
 
-pub not_false : (b : Bool) → not b ≡ false → b ≡ true
-not_false true e = refl
-not_false false e = sym e
+pub byte_there : (text : List ℕ) (at : ℕ) (o : Option (Bor ℕ)) {b : ℕ} → Looked text at o → Some b ≡ option_copied o → (at < length text) × (b ≡ get_or text at 0)
+byte_there text at None h e = cc
+byte_there text at (Some x) h e = (h.0, same_Some _ _ e ∙ h.1 0)
+
+pub no_byte : (text : List ℕ) (at : ℕ) (o : Option (Bor ℕ)) → Looked text at o → None ≡ option_copied o → length text ≤ at
+no_byte text at None h e = h
+no_byte text at (Some x) h e = cc
 
 -- at a place of the text
 module _ (text : List ℕ) (at : ℕ) where
@@ -61,34 +67,33 @@ module _ (text : List ℕ) (at : ℕ) where
   unfolding rest
   rest_drop h = rw (head text at h)
 
+  -- the text behind a byte that stands there
+  pub rest_past : {c a : ℕ} → Past c text at a → rest (drop at text) ≡ drop a text
+  rest_past p = rw p.next (rest_drop p.inside)
+
   pub seen_inside : (c : ℕ) → at < length text → Seen c text at (eqb (get_or text at 0) c)
   unfolding starts
   seen_inside c h = record { is = rw (head text at h); inside = λ _. h }
 
   pub seen_outside : (c : ℕ) → length text ≤ at → Seen c text at false
   unfolding starts
-  seen_outside c h = record { is = rw (drop_of_length-le text h); inside = λ e. absurd (false_true e) }
+  seen_outside c h = record { is = rw (drop_of_length-le text h); inside = λ e. cc }
 
   pub offset_end : (first count : ℕ) → length text ≤ at → ranged first count (drop at text) ≡ no
   unfolding ranged
   offset_end first count h = rw (drop_of_length-le text h)
 
-  -- x is the byte there, and y the first byte that counts
-  module _ (first count : ℕ) {x y : ℕ} (inside : at < length text) (is : x ≡ get_or text at 0) (from : y ≡ first) where
-    pub offset_low : x < y → ranged first count (drop at text) ≡ no
+  module _ (first count : ℕ) (inside : at < length text) where
+    pub offset_low : get_or text at 0 < first → ranged first count (drop at text) ≡ no
     unfolding ranged branch
-    offset_low h = let l : get_or text at 0 < first = omega arith in rw (head text at inside, lt-ltb _ _ l)
+    offset_low h = rw (head text at inside, lt-ltb _ _ h)
 
-    pub offset_high : y ≤ x → count ≤ x - y → ranged first count (drop at text) ≡ no
-    unfolding ranged branch
-    offset_high h k =
-        let l : first ≤ get_or text at 0 = omega arith in
-        let m : count ≤ get_or text at 0 - first = omega arith in
-        rw (head text at inside, le-ltb _ _ l, le-ltb _ _ m)
+    -- k is the place of the byte from `first` on
+    module _ {k : ℕ} (above : first ≤ get_or text at 0) (is : k ≡ get_or text at 0 - first) where
+      pub offset_high : count ≤ k → ranged first count (drop at text) ≡ no
+      unfolding ranged branch
+      offset_high h = rw (head text at inside, le-ltb _ _ above, ← is, le-ltb _ _ h)
 
-    pub offset_by : y ≤ x → x - y < count → Offset-at first count text at (x - y)
-    unfolding ranged branch
-    offset_by h k =
-        let l : first ≤ get_or text at 0 = omega arith in
-        let m : get_or text at 0 - first < count = omega arith in
-        record { inside = inside; small = k; read = rw (head text at inside, le-ltb _ _ l, lt-ltb _ _ m, is, from) }
+      pub offset_by : k < count → Offset-at first count text at k
+      unfolding ranged branch
+      offset_by h = record { inside = inside; small = h; read = rw (head text at inside, le-ltb _ _ above, ← is, lt-ltb _ _ h) }

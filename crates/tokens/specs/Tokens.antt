@@ -1,20 +1,14 @@
 -- What the text of a drill begins with, as a function of the text: a byte, a number, a range, an operator after its operand, a
 -- letter with its sign; and what is said of a place of the text where one of them was read. How they make a drill is found in `descent`.
-use Rattle.std.specs.Prelude.{Bool, true, false, List, [], ◌∷◌, ◌≡◌, ℕ, ◌+◌, ◌-◌, ◌*◌, ◌<◌, ◌≤◌, min, eqb, ltb, length, drop}
+use Rattle.std.specs.Prelude.{Option, Some, None, Bool, true, false, List, [], ◌∷◌, ◌≡◌, ℕ, ◌+◌, ◌-◌, ◌*◌, ◌<◌, ◌≤◌, min, eqb, ltb, length, drop}
 use Rattle.expression.specs.declared.Range.{Range}
 use Rattle.expression.specs.declared.End.{End}
 use Rattle.expression.specs.declared.End.TheVariants.{Closed, Open}
-use Rattle.expression.specs.declared.Upper.{Upper}
-use Rattle.expression.specs.declared.Upper.TheVariants.{Endless, UpTo}
 use Rattle.expression.specs.declared.Sign.TheVariants.{High, Low, Rise, Fall}
 use Rattle.expression.specs.declared.Unary.{Unary}
 use Rattle.expression.specs.declared.Unary.TheVariants.{Star, Band, Absence}
 use Rattle.expression.specs.Expression.{Expression, literal}
 use Rattle.expression.specs.declared.Sign.{Sign}
-use Rattle.tokens.specs.declared.Postfix.{Postfix}
-use Rattle.tokens.specs.declared.Postfix.TheVariants.{Operator, NoOperator}
-use Rattle.tokens.specs.declared.Lettered.{Lettered}
-use Rattle.tokens.specs.declared.Lettered.TheVariants.{Letter, NoLetter}
 
 -- nothing, or a value and the text after it
 pub data Got (A : Type 0) : Type 0 where
@@ -67,8 +61,8 @@ unfoldable pub bound : List ℕ → Got End
 bound s = branch (starts 60 s) (λ _. numbered Open (rest s)) (λ _. numbered Closed s)
 
 -- the upper end of a range, with the closing brace
-unfoldable pub upper_end : List ℕ → Got Upper
-upper_end s = branch (starts 125 s) (λ _. yes Endless (rest s)) (λ _. bind (bound s) (λ e r. expect 125 (UpTo e) r))
+unfoldable pub upper_end : List ℕ → Got (Option End)
+upper_end s = branch (starts 125 s) (λ _. yes None (rest s)) (λ _. bind (bound s) (λ e r. expect 125 (Some e) r))
 
 -- what stands after an opening brace, with the closing one
 unfoldable pub limits : List ℕ → Got Range
@@ -97,9 +91,9 @@ abbrev pub capped_end : End → End
 capped_end (Closed n) = Closed (cap n)
 capped_end (Open n) = Open (cap n)
 
-abbrev pub capped_upper : Upper → Upper
-capped_upper Endless = Endless
-capped_upper (UpTo e) = UpTo (capped_end e)
+abbrev pub capped_upper : Option End → Option End
+capped_upper None = None
+capped_upper (Some e) = Some (capped_end e)
 
 abbrev pub capped_range : Range → Range
 capped_range r = record { lo = capped_end r.lo; hi = capped_upper r.hi }
@@ -117,10 +111,14 @@ pub record Got-at {A : Type 0} (reads : List ℕ → Got A) (keeps : A → A) (t
   pub is : v ≡ keeps x
   pub read : reads (drop at text) ≡ yes x (drop a text)
 
+-- what a reader answers: where what it read ends and what is kept of it, or that there is nothing
+abbrev pub GotAs : {A : Type 0} → (List ℕ → Got A) → (A → A) → List ℕ → ℕ → Option (ℕ × A) → Type 0
+GotAs reads keeps text at (Some got) = Got-at reads keeps text at got.0 got.1
+GotAs reads keeps text at None = reads (drop at text) ≡ no
+
 -- an operator after its operand: where it ends and which it is, or that there is none
-abbrev pub PostfixAs : List ℕ → ℕ → Postfix → Type 0
-PostfixAs text at (Operator a u) = Got-at postfix capped_unary text at a u
-PostfixAs text at NoOperator = postfix (drop at text) ≡ no
+abbrev pub PostfixAs : List ℕ → ℕ → Option (ℕ × Unary) → Type 0
+PostfixAs text at r = GotAs postfix capped_unary text at r
 
 -- a letter with its sign, from `at` up to a
 pub record Letter-at (text : List ℕ) (at a : ℕ) (s : Sign) (k : ℕ) : Type 0 where
@@ -129,9 +127,9 @@ pub record Letter-at (text : List ℕ) (at a : ℕ) (s : Sign) (k : ℕ) : Type 
   pub small : k < 16
   pub read : lettered (drop at text) ≡ yes (literal s k) (drop a text)
 
-abbrev pub LetterAs : List ℕ → ℕ → Lettered → Type 0
-LetterAs text at (Letter a s k) = Letter-at text at a s k
-LetterAs text at NoLetter = lettered (drop at text) ≡ no
+abbrev pub LetterAs : List ℕ → ℕ → Option (ℕ × Sign × ℕ) → Type 0
+LetterAs text at (Some got) = Letter-at text at got.0 got.1 got.2
+LetterAs text at None = lettered (drop at text) ≡ no
 
 -- whether the byte c stands at `at`
 pub record Seen (c : ℕ) (text : List ℕ) (at : ℕ) (r : Bool) : Type 0 where

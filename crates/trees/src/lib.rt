@@ -4,7 +4,7 @@
 // specs/Trees.antt says what a tree keeps. What stands in a text, and where, is found in `parser`.
 #![tactic(auto)]
 
-ghost use Rattle.std.specs.Prelude.{◌≡◌, ◌||◌, ◌+◌, ◌*◌, ◌≤◌, ◌<◌, max, length};
+ghost use Rattle.std.specs.Prelude.{◌≡◌, max};
 ghost use Rattle.expression.specs.declared.Node.TheVariants.{Infix, Applied};
 ghost use Rattle.expression.specs.Stored.{Placed};
 ghost use Rattle.trees.specs.Trees.{over, beside, around, nothing, Room};
@@ -24,29 +24,15 @@ pub struct Tree {
     pub wrong: bool,
 }
 
-fn larger(x: u32, y: u32) -> u32
-    ensures { result ≡ max x y }
-{
-    if x < y { y } else { x }
-}
-
-fn either(x: bool, y: bool) -> bool
-    ensures { result ≡ (x || y) }
-{
-    if x { true } else { y }
-}
-
 // The operands of a join.
 fn pair(left: Tree, right: Tree) -> Tree
     ensures { result ≡ beside left right }
 {
     Tree {
-        at: right.at,
-        root: right.root,
-        used: right.used,
-        depth: larger(left.depth, right.depth),
-        width: larger(left.width, right.width),
-        wrong: either(left.wrong, right.wrong),
+        depth: left.depth.max(right.depth),
+        width: left.width.max(right.width),
+        wrong: left.wrong || right.wrong,
+        ..right
     }
 }
 
@@ -56,11 +42,8 @@ fn extended(tree: Tree, at: usize, wrong: bool) -> Tree
 {
     Tree {
         at,
-        root: tree.root,
-        used: tree.used,
-        depth: tree.depth,
-        width: tree.width,
-        wrong: either(wrong, tree.wrong),
+        wrong: wrong || tree.wrong,
+        ..tree
     }
 }
 
@@ -69,15 +52,12 @@ fn add(nodes: &mut [u32], under: Tree, node: Node) -> Tree
     requires { Room nodes.old under.used under.depth }
     ensures { (result ≡ over under) × Placed under.used node nodes.old nodes.new }
 {
-    let used = under.used;
-    expression::store(nodes, used, node);
+    expression::store(nodes, under.used, node);
     Tree {
-        at: under.at,
-        root: used,
-        used: used + 1,
+        root: under.used,
+        used: under.used + 1,
         depth: under.depth + 1,
-        width: under.width,
-        wrong: under.wrong,
+        ..under
     }
 }
 

@@ -18,8 +18,6 @@ use Rattle.list.proofs.Copies.{brought}
 use Rattle.expression.specs.declared.Range.{Range}
 use Rattle.expression.specs.declared.End.{End}
 use Rattle.expression.specs.declared.End.TheVariants.{Closed, Open}
-use Rattle.expression.specs.declared.Upper.{Upper}
-use Rattle.expression.specs.declared.Upper.TheVariants.{Endless, UpTo}
 use Rattle.expression.specs.Refusal.{figure, Wrong}
 use Rattle.expression.proofs.Laws.{right_range}
 use Rattle.meaning.specs.Satisfies.{upper_limit, lower_limit}
@@ -91,7 +89,7 @@ band_sound from to r h = go (range_band from to r) refl
 pub lower_small : (r : Range) → (Wrong r → ⊥) → figure r.lo ≤ most_ticks
 lower_small r w = (right_range r.lo r.hi w).0
 
-pub upper_small : (r : Range) (hi : End) → r.hi ≡ UpTo hi → (Wrong r → ⊥) → figure hi ≤ most_ticks
+pub upper_small : (r : Range) (hi : End) → r.hi ≡ Some hi → (Wrong r → ⊥) → figure hi ≤ most_ticks
 upper_small r hi e w = (rw e at (right_range r.lo r.hi w).1).1
 
 -- and so are the limits that they set
@@ -106,6 +104,6 @@ small_upper (Open n) h = small_most h
 pub small_longest : (from to : ℕ) (r : Range) → to ≤ most_ticks → (Wrong r → ⊥) → Small most_ticks (longest from to r.hi)
 small_longest from to r h w = go r.hi refl
   where
-    go : (u : Upper) → r.hi ≡ u → Small most_ticks (longest from to u)
-    go Endless e = small_most (omega arith)
-    go (UpTo hi) e = small_upper hi (upper_small r hi e w)
+    go : (u : Option End) → r.hi ≡ u → Small most_ticks (longest from to u)
+    go None e = small_most (omega arith)
+    go (Some hi) e = small_upper hi (upper_small r hi e w)

@@ -20,7 +20,7 @@ ghost use Rattle.purse.specs.Purse.{EvaluatedAs};
 ghost use Rattle.meaning.specs.Lists.{ended, longest, range_band, join_list, applied};
 ghost use Rattle.values.specs.Values.{Ticks, OperandAt};
 
-use expression::{End, Join, Range, Unary, Upper};
+use expression::{End, Join, Range, Unary};
 use limit::Limit;
 use list::SLOT_WORDS;
 use operators::{Composed, Listed};
@@ -113,8 +113,8 @@ fn longest(range: Range, from: u32, to: u32) -> Limit
 {
     let hi = range.hi;
     match hi {
-        Upper::Endless => Limit::most(to - from),
-        Upper::UpTo(end) => upper_limit(end),
+        None => Limit::most(to - from),
+        Some(end) => upper_limit(end),
     }
 }
 

@@ -7,29 +7,20 @@ use Rattle.descent.proofs.Steps.{joins_after, postfixes_after}
 use Rattle.parser.proofs.Levels.{operand_level}
 use Rattle.parser.proofs.+grammar.Given as goal
 
-abbrev pub decreases-alternative : goal.decreases-alternative
-decreases-alternative l = (length l.text.now - l.at) * 12 + 12
-
 abbrev pub decreases-chain : goal.decreases-chain
-decreases-chain l = (length l.text.now - l.at) * 12 + (operand_level l.join + 1)
-
-abbrev pub decreases-conjunction : goal.decreases-conjunction
-decreases-conjunction l = (length l.text.now - l.at) * 12 + 9
+decreases-chain l = (length l.text.now - l.at) * 10 + (operand_level l.join + 1)
 
 abbrev pub decreases-factor : goal.decreases-factor
-decreases-factor l = (length l.text.now - l.at) * 12 + 3
+decreases-factor l = (length l.text.now - l.at) * 10 + 3
 
 abbrev pub decreases-operand : goal.decreases-operand
-decreases-operand l = (length l.text.now - l.at) * 12 + operand_level l.join
+decreases-operand l = (length l.text.now - l.at) * 10 + operand_level l.join
 
 abbrev pub decreases-primary : goal.decreases-primary
-decreases-primary l = (length l.text.now - l.at) * 12 + 1
+decreases-primary l = (length l.text.now - l.at) * 10 + 1
 
 abbrev pub decreases-repeat : goal.decreases-repeat
-decreases-repeat l = (length l.text.now - l.at) * 12 + 2
-
-abbrev pub decreases-sequence : goal.decreases-sequence
-decreases-sequence l = (length l.text.now - l.at) * 12 + 6
+decreases-repeat l = (length l.text.now - l.at) * 10 + 2
 
 abbrev pub invariant-chain-loop-join : goal.invariant-chain-loop-join
 invariant-chain-loop-join l =

@@ -1,23 +1,15 @@
 -- `bound_at`: the number behind a `<`, or the number that stands there.
-use Rattle.std.proofs.Common.{◌∙◌, arith}
 use Rattle.tokens.proofs.Numbers.{open_none, open_is, closed_none, closed_is}
 use Rattle.tokens.proofs.bound_at.Goals as goal
 
-pub overflow_add-at : goal.overflow_add-at
-overflow_add-at c = omega (arith, c.byte_is.ensures.inside c.if-byte_is.true)
+pub returns-in_err-end : goal.returns-in_err-end
+returns-in_err-end c = rw c.from_residual.ensures (open_none _ _ c.in-Some.ensures c.in_err-end.ensures)
 
-pub returns-in_default : goal.returns-in_default
-returns-in_default c =
-    open_none _ _ (c.byte_is.ensures.is ∙ c.if-byte_is.true) (c.byte_is.ensures.inside c.if-byte_is.true) (rw c.in_default.is at c.number_at.ensures)
+pub returns-in-Some : goal.returns-in-Some
+returns-in-Some c = open_is _ _ c.in-Some.ensures c.in_ok-end.ensures
 
-pub returns-then-byte_is : goal.returns-then-byte_is
-returns-then-byte_is c =
-    open_is _ _ (c.byte_is.ensures.is ∙ c.if-byte_is.true) (c.byte_is.ensures.inside c.if-byte_is.true) (rw c.in-Value.is at c.number_at.ensures)
-
-pub returns-in_default-number_at : goal.returns-in_default-number_at
-returns-in_default-number_at c =
-    closed_none c.args.text.now c.args.at (c.byte_is.ensures.is ∙ c.if-byte_is.false) (rw c.in_default-number_at.is at c.number_at-2.ensures)
+pub returns-in_err-end-2 : goal.returns-in_err-end-2
+returns-in_err-end-2 c = rw c.from_residual-in_err-end-2.ensures (closed_none c.args.text.now c.args.at c.in_default.ensures c.in_err-end-2.ensures)
 
 pub returns : goal.returns
-returns c =
-    closed_is _ _ (c.byte_is.ensures.is ∙ c.if-byte_is.false) (rw c.in-Value-number_at.is at c.number_at-2.ensures)
+returns c = closed_is _ _ c.in_default.ensures c.in_ok-end-2.ensures

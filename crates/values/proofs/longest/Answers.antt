@@ -7,10 +7,10 @@ pub most-requires : goal.most-requires
 most-requires c = omega (arith, c.requires.0.small)
 
 pub upper_limit-requires : goal.upper_limit-requires
-upper_limit-requires c = upper_small c.args.range _ c.in-UpTo.is c.requires.1
+upper_limit-requires c = upper_small c.args.range _ c.in-Some.is c.requires.1
 
-pub returns-in-Endless : goal.returns-in-Endless
-returns-in-Endless c = rw c.in-Endless.is c.most.ensures.value
+pub returns-in-None : goal.returns-in-None
+returns-in-None c = rw c.in-None.is c.most.ensures.value
 
-pub returns-in-UpTo : goal.returns-in-UpTo
-returns-in-UpTo c = rw c.in-UpTo.is c.upper_limit.ensures
+pub returns-in-Some : goal.returns-in-Some
+returns-in-Some c = rw c.in-Some.is c.upper_limit.ensures
