@@ -83,7 +83,7 @@ pub fn point(work: &mut [i32], base: usize, from: u32, to: u32, told: u64) -> Ev
     }
 }
 
-// What is put for each run of ticks.
+// What is put for each run of ticks. An enum, no closure: the contracts say by its name what is put for a run.
 #[derive(Clone, Copy)]
 enum Mark {
     // The stretches in it.
