@@ -1,4 +1,5 @@
 -- The lists that stand to and fro: the last list made, and the operand's zones still to come.
+use Rattle.std.specs.Prelude.{Some, Result}
 use mathlib.Core.Path.{◌≡◌, refl, sym, ap, subst, ◌∙◌}
 use mathlib.Core.Logic.{◌⊎◌, inl, inr}
 use mathlib.Core.List.{List, [], ◌∷◌, map, append-nil}
@@ -7,7 +8,6 @@ use native.Mathlib.Omega.{arith}
 use lib.IntN.{ℤ}
 use lib.ListN.{length}
 use Rattle.zone.specs.declared.Zone.{Zone}
-use Rattle.zone.specs.declared.MaybeZone.TheVariants.{Zone as zone}
 use Rattle.zone.specs.Zone.{everything}
 use Rattle.zone.proofs.Laws.{proper_within, proper_everything}
 use Rattle.words.specs.Words.{zone_at, codes, overwrite}
@@ -23,7 +23,7 @@ use Rattle.list.proofs.Slots.{kept_refl, kept_trans, kept_within, kept_apart, li
 use Rattle.pairs.specs.Operands.{Supply}
 use Rattle.pairs.specs.Row.{Zones}
 use Rattle.pairs.proofs.Zones.{one_there}
-use Rattle.operators.specs.declared.Listed.{Listed}
+use Rattle.list.specs.declared.Overflow.{Overflow}
 use Rattle.operators.specs.Listing.{Listing, BuiltAs}
 use Rattle.operators.proofs.Listings.{written_kept, written_alone, sound_one}
 use Rattle.absence.specs.Absence.{parts_each, without, without_each, absent}
@@ -51,19 +51,19 @@ pub record Alternating (ws₀ : List ℤ) (base n i : ℕ) (ws : List ℤ) (here
   pub most : i ≤ n
   pub behind : Behind base here there
   pub list : Source ws here count
-  pub shared : ShareNone (map zone (list_at ws here count))
+  pub shared : ShareNone (map Some (list_at ws here count))
   pub frame : Kept (base + 768) 1536 ws₀ ws
   pub value : without_each (list_at ws₀ (base + i * 6) (n - i)) (list_at ws here count) ≡ whole ws₀ base n
 
 -- one zone alone shares nothing, and neither do the zones of a new list
-one_shared : (ws : List ℤ) (at : ℕ) → ShareNone (map zone (list_at ws at 1))
+one_shared : (ws : List ℤ) (at : ℕ) → ShareNone (map Some (list_at ws at 1))
 unfolding list_at
 one_shared ws at = share_one (zone_at ws at)
 
-without_share : (w : Zone) (L : List Zone) {M : List Zone} → without w L ≡ listed M → ShareNone (map zone L) → ShareNone (map zone M)
+without_share : (w : Zone) (L : List Zone) {M : List Zone} → without w L ≡ listed M → ShareNone (map Some L) → ShareNone (map Some M)
 unfolding without
 without_share w L {M} e h =
-    subst ShareNone (append-nil (map zone M)) (share_puts [] (puts (parts_each w L) [] e) (subst ShareNone (sym (append-nil (parts_each w L))) (parts_each_share w L h)))
+    subst ShareNone (append-nil (map Some M)) (share_puts [] (puts (parts_each w L) [] e) (subst ShareNone (sym (append-nil (parts_each w L))) (parts_each_share w L h)))
 
 pub alternating_start : {ws : List ℤ} {base n : ℕ} → Operand ws base n → Alternating ws base n 0 ws (base + 768) (base + 1536) 1
 alternating_start {ws} {base} {n} o =
@@ -97,7 +97,7 @@ module _ {ws₀ : List ℤ} {base n i : ℕ} {ws : List ℤ} {here there count :
 
   module _ (l : i < n) where
     -- what the next list is made from
-    pub next_ready : Supply ws here count there 0 × Zones ws (base + i * 6) 1 there × ShareNone (map zone (list_at ws here count))
+    pub next_ready : Supply ws here count there 0 × Zones ws (base + i * 6) 1 there × ShareNone (map Some (list_at ws here count))
     next_ready = (
       record { list = a.list; slot = record { few = omega arith; room = omega (arith, enough, a.behind.there_to) }; apart = a.behind.apart },
       one_there operand i l,
@@ -133,7 +133,7 @@ module _ {ws₀ : List ℤ} {base n i : ℕ} {ws : List ℤ} {here there count :
               room = omega (arith, enough, k.same_length, a.behind.there_to);
               sound = subst Sound (sym h.holds.zones) (without_well (zone_at ws (base + i * 6)) (list_at ws here count) h.value a.list.sound).proper;
             };
-            shared = subst (λ (L : List Zone). ShareNone (map zone L)) (sym h.holds.zones) (without_share (zone_at ws (base + i * 6)) (list_at ws here count) h.value a.shared);
+            shared = subst (λ (L : List Zone). ShareNone (map Some L)) (sym h.holds.zones) (without_share (zone_at ws (base + i * 6)) (list_at ws here count) h.value a.shared);
             frame = kept_trans a.frame (within a.behind k);
             value = ap (without_each rest) h.holds.zones ∙ ap (λ (r : Built). then r (without_each rest)) (sym h.value) ∙ step;
           }
@@ -172,7 +172,7 @@ module _ {ws : List ℤ} {base n : ℕ} (s : Source ws base n) (room : base + 23
       }
 
   -- the rule begins with it
-  pub everything_same : {vs : List ℤ} (r : Listed) → BuiltAs (whole us base n) vs base r × Kept base 2304 us vs → BuiltAs (absent from to (list_at ws base n)) vs base r × Kept base 2304 ws vs
+  pub everything_same : {vs : List ℤ} (r : Result ℕ Overflow) → BuiltAs (whole us base n) vs base r × Kept base 2304 us vs → BuiltAs (absent from to (list_at ws base n)) vs base r × Kept base 2304 ws vs
   unfolding absent
   everything_same {vs} r h = (
     subst (λ (b : Built). BuiltAs b vs base r) (λ i. without_each (list_there base n written (inl (omega arith)) s.few i) (alone i)) h.0,

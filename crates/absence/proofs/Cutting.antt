@@ -1,4 +1,5 @@
 -- The loops that put parts: what has been put, and what is still to come.
+use Rattle.std.specs.Prelude.{Option, Some, None}
 use mathlib.Core.Path.{◌≡◌, refl, sym, ap, subst, ◌∙◌}
 use mathlib.Core.Bool.{Bool, false}
 use mathlib.Core.List.Memᴰ.{eq_of_singleton}
@@ -11,8 +12,6 @@ use native.Mathlib.Omega.{arith}
 use lib.IntN.{ℤ}
 use lib.ListN.{length, drop}
 use Rattle.zone.specs.declared.Zone.{Zone}
-use Rattle.zone.specs.declared.MaybeZone.{MaybeZone}
-use Rattle.zone.specs.declared.MaybeZone.TheVariants.{Zone as zone, Empty as empty}
 use Rattle.limit.specs.Time.{Time}
 use Rattle.zone.specs.Zone.{In, Proper}
 use Rattle.parts.specs.Parts.{sides, side, keeping, part, parts_on, parts, Cuttable, Breaks, KeepsTo, RoomAs}
@@ -37,21 +36,21 @@ use Rattle.absence.specs.Steps.{Listable, Growable}
 use Rattle.absence.proofs.Sharing.{share_front, share_puts, share_apart}
 
 -- empty answers are passed over
-going_none : {whole : Built} {g₀ : Growing} {L₀ : List Zone} {target : ℕ} {ws₀ ws : List ℤ} {g : Growing} (todo : List MaybeZone) → ((r : MaybeZone) → Memᴰ r todo → r ≡ empty)
+going_none : {whole : Built} {g₀ : Growing} {L₀ : List Zone} {target : ℕ} {ws₀ ws : List ℤ} {g : Growing} (todo : List (Option Zone)) → ((r : Option Zone) → Memᴰ r todo → r ≡ None)
     → Going todo whole g₀ L₀ target ws₀ ws g → Going [] whole g₀ L₀ target ws₀ ws g
 going_none [] f w = w
-going_none (r ∷ todo) f w = going_none todo (λ q m. f q (tail m)) (going_past (going_same (ap (λ (q : MaybeZone). q ∷ todo) (f r (head refl))) w))
+going_none (r ∷ todo) f w = going_none todo (λ q m. f q (tail m)) (going_past (going_same (ap (λ (q : Option Zone). q ∷ todo) (f r (head refl))) w))
 
 -- ---- what is left of one zone
 
 -- nothing is left, and nothing is put
-pub none_put : (ws : List ℤ) (target : ℕ) (g : Growing) → Stands ws target g → Growth (insert_each (empty ∷ []) (list_at ws target g.count)) NoPair g (list_at ws target g.count) ws target g
-none_put ws target g s = going_end refl (going_past (going_start (empty ∷ []) target ws g s)) 0 refl (omega arith)
+pub none_put : (ws : List ℤ) (target : ℕ) (g : Growing) → Stands ws target g → Growth (insert_each (None ∷ []) (list_at ws target g.count)) NoPair g (list_at ws target g.count) ws target g
+none_put ws target g s = going_end refl (going_past (going_start (None ∷ []) target ws g s)) 0 refl (omega arith)
 
 -- what breaks a limit can be put last
-listable_by : {z w : Zone} (k : ℕ) → Cuttable z → (L : List Zone) (todo : List MaybeZone) → Sound L → (r : MaybeZone) → Breaks z w (side k) r → ShareNone (map zone L ++ (r ∷ todo)) → Listable L r
-listable_by {z} {w} k c L todo s (zone p) b h = let q = part_listed z w (side k) c b refl in (q, share_apart L todo s q h)
-listable_by k c L todo s empty b h = tt
+listable_by : {z w : Zone} (k : ℕ) → Cuttable z → (L : List Zone) (todo : List (Option Zone)) → Sound L → (r : Option Zone) → Breaks z w (side k) r → ShareNone (map Some L ++ (r ∷ todo)) → Listable L r
+listable_by {z} {w} k c L todo s (Some p) b h = let q = part_listed z w (side k) c b refl in (q, share_apart L todo s q h)
+listable_by k c L todo s None b h = tt
 
 -- without room nothing is left
 pub spent : (z : Zone) (r : Bool) → RoomAs z r → r ≡ false → (x y : Time) → ¬ In z x y
@@ -59,25 +58,25 @@ spent z r h e = subst (RoomAs z) {x = r} e h
 
 -- ---- a list of which no two zones share a stretch, after the first puts
 
-module _ {ws vs : List ℤ} {target : ℕ} {g h : Growing} (rs todo : List MaybeZone) (a : Growable ws target g (rs ++ todo)) where
-  pub growable_on : ((z : Zone) → Memᴰ (zone z) rs → Proper 0 1_000_000 z) → Growth (insert_each rs (list_at ws target g.count)) NoPair g (list_at ws target g.count) vs target h → Kept target 768 ws vs → Growable vs target h todo
+module _ {ws vs : List ℤ} {target : ℕ} {g h : Growing} (rs todo : List (Option Zone)) (a : Growable ws target g (rs ++ todo)) where
+  pub growable_on : ((z : Zone) → Memᴰ (Some z) rs → Proper 0 1_000_000 z) → Growth (insert_each rs (list_at ws target g.count)) NoPair g (list_at ws target g.count) vs target h → Kept target 768 ws vs → Growable vs target h todo
   growable_on p b f =
       record {
         stands = grown_stands a.stands.slot f b;
         sound = subst Sound (sym b.holds.zones) (each_proper rs (list_at ws target g.count) b.value a.sound p);
-        shared = subst (λ (L : List Zone). ShareNone (map zone L ++ todo)) (sym b.holds.zones) (share_puts todo (puts rs (list_at ws target g.count) b.value) a.shared);
+        shared = subst (λ (L : List Zone). ShareNone (map Some L ++ todo)) (sym b.holds.zones) (share_puts todo (puts rs (list_at ws target g.count) b.value) a.shared);
       }
 
-pub growable_same : {ws : List ℤ} {target : ℕ} {g : Growing} {todo other : List MaybeZone} → todo ≡ other → Growable ws target g todo → Growable ws target g other
+pub growable_same : {ws : List ℤ} {target : ℕ} {g : Growing} {todo other : List (Option Zone)} → todo ≡ other → Growable ws target g todo → Growable ws target g other
 growable_same {ws} {target} {g} e a = subst (Growable ws target g) e a
 
 -- .. of the first of them alone
-pub growable_front : {ws : List ℤ} {target : ℕ} {g : Growing} (rs todo : List MaybeZone) → Growable ws target g (rs ++ todo) → Growable ws target g rs
+pub growable_front : {ws : List ℤ} {target : ℕ} {g : Growing} (rs todo : List (Option Zone)) → Growable ws target g (rs ++ todo) → Growable ws target g rs
 growable_front {ws} {target} {g} rs todo a =
     record {
       stands = a.stands;
       sound = a.sound;
-      shared = share_front (map zone (list_at ws target g.count) ++ rs) todo (subst ShareNone (sym (append_assoc (map zone (list_at ws target g.count)) rs todo)) a.shared);
+      shared = share_front (map Some (list_at ws target g.count) ++ rs) todo (subst ShareNone (sym (append_assoc (map Some (list_at ws target g.count)) rs todo)) a.shared);
     }
 
 -- ---- the parts of one zone
@@ -94,15 +93,15 @@ pub cutting_start : (z w : Zone) (g : Growing) (target : ℕ) (ws : List ℤ) �
 cutting_start z w g target ws p a = record { most = omega arith; cuttable = proper_cuttable p; pairs = refl; growable = a; going = going_start (parts z w) target ws g a.stands }
 
 module _ {z w : Zone} {g₀ : Growing} {target : ℕ} {ws₀ : List ℤ} {k : ℕ} {rest : Zone} {ws : List ℤ} {g : Growing} (c : Cutting z w g₀ target ws₀ k rest ws g) where
-  module _ (l : k < 6) {r : MaybeZone} (e : r ≡ part rest w (side k)) where
+  module _ (l : k < 6) {r : Option Zone} (e : r ≡ part rest w (side k)) where
     -- the part at hand comes next
     part_ahead : parts_on (drop k sides) rest w ≡ (r ∷ []) ++ parts_on (drop (k + 1) sides) (keeping rest w (side k)) w
-    part_ahead = parts_next rest w k l ∙ ap (λ (p : MaybeZone). p ∷ parts_on (drop (k + 1) sides) (keeping rest w (side k)) w) (sym e)
+    part_ahead = parts_next rest w k l ∙ ap (λ (p : Option Zone). p ∷ parts_on (drop (k + 1) sides) (keeping rest w (side k)) w) (sym e)
 
     pub listable : Breaks rest w (side k) r → Listable (list_at ws target g.count) r
     listable b = listable_by {z = rest} {w = w} k c.cuttable _ (parts_on (drop (k + 1) sides) (keeping rest w (side k)) w) c.growable.sound r b (growable_same part_ahead c.growable).shared
 
-    one_proper : Breaks rest w (side k) r → (z : Zone) → Memᴰ (zone z) (r ∷ []) → Proper 0 1_000_000 z
+    one_proper : Breaks rest w (side k) r → (z : Zone) → Memᴰ (Some z) (r ∷ []) → Proper 0 1_000_000 z
     one_proper b z m = part_listed rest w (side k) c.cuttable b (sym (eq_of_singleton m))
 
     ahead : Going ((r ∷ []) ++ parts_on (drop (k + 1) sides) (keeping rest w (side k)) w) (insert_each (parts z w) (list_at ws₀ target g₀.count)) g₀ (list_at ws₀ target g₀.count) target ws₀ ws g
@@ -144,13 +143,13 @@ pub record Replacing (w : Zone) (source n : ℕ) (g₀ : Growing) (target : ℕ)
 pub begun_supply : {ws : List ℤ} {source n target : ℕ} {g : Growing} → Begins 0 g → Supply ws source n target 0 → Supply ws source n target g.count
 begun_supply {ws} {source} {n} {target} b s = subst (Supply ws source n target) (sym b.count) s
 
-pub begun_growable : {ws : List ℤ} {target : ℕ} {g : Growing} {todo : List MaybeZone} → Begins 0 g → Slot ws target 0 → ShareNone todo → Growable ws target g todo
+pub begun_growable : {ws : List ℤ} {target : ℕ} {g : Growing} {todo : List (Option Zone)} → Begins 0 g → Slot ws target 0 → ShareNone todo → Growable ws target g todo
 begun_growable {ws} {target} {g} {todo} b s h =
     let none = sym (begun_none ws target b) in
     record {
       stands = begun_stands b s;
       sound = subst Sound none (λ z m. absurd (not-nil m));
-      shared = subst (λ (L : List Zone). ShareNone (map zone L ++ todo)) none h;
+      shared = subst (λ (L : List Zone). ShareNone (map Some L ++ todo)) none h;
     }
   where
     begun_none : (ws : List ℤ) (target : ℕ) {g : Growing} → Begins 0 g → list_at ws target g.count ≡ []

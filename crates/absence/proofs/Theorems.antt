@@ -1,5 +1,6 @@
 -- The theorems on the list of `~`: in it lie exactly the stretches of ticks from..to that do not lie in the operand's list, and it is well formed.
 -- The page that the crates above cite.
+use Rattle.std.specs.Prelude.{Some}
 use mathlib.Core.Path.{◌≡◌, refl, sym, subst}
 use mathlib.Core.Logic.Iff
 use mathlib.Core.Logic.{◌↔◌, ◌⊎◌, inl, inr, ⊎_map, ⊎_elim}
@@ -14,7 +15,6 @@ use Prim.Native.Nat.{ℕ, ◌≤◌}
 use native.Mathlib.Omega.{arith}
 use Rattle.limit.specs.Time.{Time}
 use Rattle.zone.specs.declared.Zone.{Zone}
-use Rattle.zone.specs.declared.MaybeZone.TheVariants.{Zone as zone}
 use Rattle.zone.specs.Zone.{In, Proper, Stretch, everything}
 use Rattle.zone.proofs.Laws.{everything_members, proper_everything}
 use Rattle.parts.specs.Parts.{parts}
@@ -57,7 +57,7 @@ module _ (w : Zone) where
         λ h. ⊎_map (λ i. p.1 (i, h.1)) (λ l. b.1 (l, h.1)) (c.0 h.0),
       )
 
-  pub each_proper : {from to : ℕ} (L : List Zone) → AllProper from to L → (p : Zone) → Memᴰ (zone p) (parts_each w L) → Proper from to p
+  pub each_proper : {from to : ℕ} (L : List Zone) → AllProper from to L → (p : Zone) → Memᴰ (Some p) (parts_each w L) → Proper from to p
   unfolding parts_each
   each_proper [] h p m = absurd (not-nil m)
   each_proper (z ∷ L) h p m = ⊎_elim (parts_proper w (h z (head refl)) p) (each_proper L (λ v n. h v (tail n)) p) (append_cases (parts z w) m)

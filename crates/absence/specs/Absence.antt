@@ -1,13 +1,12 @@
 -- `~`: the list of the stretches that lie in none of the operand's zones.
-use Rattle.std.specs.Prelude.{List, [], ◌∷◌, ◌++◌, ℕ}
+use Rattle.std.specs.Prelude.{List, [], ◌∷◌, ◌++◌, ℕ, Option}
 use Rattle.zone.specs.declared.Zone.{Zone}
-use Rattle.zone.specs.declared.MaybeZone.{MaybeZone}
 use Rattle.zone.specs.Zone.{everything}
 use Rattle.parts.specs.Parts.{parts}
 use Rattle.list.specs.Insert.{Built, listed, insert_each, then}
 
 -- "each listed zone is replaced by its parts", those outside w, "listed zone by listed zone"
-unfoldable pub parts_each : Zone → List Zone → List MaybeZone
+unfoldable pub parts_each : Zone → List Zone → List (Option Zone)
 parts_each w [] = []
 parts_each w (z ∷ L) = parts z w ++ parts_each w L
 

@@ -4,8 +4,7 @@
 // specs/Absence.antt has the rule over plain lists of zones; proofs/Theorems.antt is the page of laws that crates above cite.
 #![tactic(auto)]
 
-ghost use Rattle.std.specs.Prelude.{[], ◌∷◌, map, ◌+◌, ◌*◌, ◌≤◌, length};
-ghost use Rattle.zone.specs.declared.MaybeZone.TheVariants.{Zone as zone};
+ghost use Rattle.std.specs.Prelude.{[], ◌∷◌, map, ◌+◌, ◌*◌, ◌≤◌, length, Some};
 ghost use Rattle.zone.specs.Zone.{Proper};
 ghost use Rattle.words.specs.Words.{zone_words, zone_at};
 ghost use Rattle.parts.specs.Parts.{parts};
@@ -18,20 +17,25 @@ ghost use Rattle.operators.specs.Listing.{BuiltAs};
 ghost use Rattle.absence.specs.Absence.{parts_each, without, without_each, absent};
 ghost use Rattle.absence.specs.Steps.{Listable, Growable, Operand};
 
-use growing::{Growing, Grown};
-use list::SLOT_WORDS;
-use operators::Listed;
+use growing::Growing;
+use list::{Overflow, SLOT_WORDS};
+use std::mem;
 use words::ZONE_WORDS;
-use zone::{MaybeZone, Zone};
+use zone::Zone;
 
 // Puts what is left of a zone, if anything is. It shares no stretch with a listed zone, so that it goes last without a look.
-fn put_left(words: &mut [i32], target: usize, g: Growing, left: MaybeZone) -> Grown
+fn put_left(
+    words: &mut [i32],
+    target: usize,
+    g: Growing,
+    left: Option<Zone>,
+) -> Result<Growing, Overflow>
     requires { (Stands words.old target g) × (Listable (list_at words.old target g.count) left) }
     ensures grown { GrowsAs (left ∷ []) NoPair g words.old target words.new result }
     ensures kept { Kept target slot_words words.old words.new }
 {
-    let MaybeZone::Zone(z) = left else {
-        return Grown::Grew(g);
+    let Some(z) = left else {
+        return Ok(g);
     };
     let mut w = [0i32; ZONE_WORDS];
     words::write_zone(&mut w, 0, z);
@@ -45,7 +49,7 @@ fn put_parts(
     cut: &[i32; ZONE_WORDS],
     target: usize,
     g: Growing,
-) -> Grown
+) -> Result<Growing, Overflow>
     requires { (at + zone_words ≤ length words.old) × (Growable words.old target g (parts (zone_at words.old at) (zone_at cut.now 0))) × (Proper 0 1_000_000 (zone_at words.old at)) × (Proper 0 1_000_000 (zone_at cut.now 0)) }
     ensures grown { GrowsAs (parts (zone_at words.old at) (zone_at cut.now 0)) NoPair g words.old target words.new result }
     ensures kept { Kept target slot_words words.old words.new }
@@ -53,20 +57,15 @@ fn put_parts(
     let mut rest = [0i32; ZONE_WORDS];
     words::copy_zone(&mut rest, 0, words, at);
     let mut grown = g;
-    let mut k = 0;
-    while k < ZONE_WORDS {
+    for k in 0..ZONE_WORDS {
         let part = parts::part(&rest, cut, k);
-        let Grown::Grew(next) = put_left(words, target, grown, part) else {
-            return Grown::Overflow;
-        };
-        grown = next;
+        grown = put_left(words, target, grown, part)?;
         parts::keep(&mut rest, cut, k);
         if !parts::has_room(&rest, k) {
-            return Grown::Grew(grown);
+            return Ok(grown);
         }
-        k += 1;
     }
-    Grown::Grew(grown)
+    Ok(grown)
 }
 
 // Puts the parts of each of the n zones at `source` outside the zone of six words `cut`, zone by zone.
@@ -77,41 +76,39 @@ fn put_each(
     cut: &[i32; ZONE_WORDS],
     target: usize,
     g: Growing,
-) -> Grown
+) -> Result<Growing, Overflow>
     requires { (Supply words.old source n target g.count) × (Growable words.old target g (parts_each (zone_at cut.now 0) (list_at words.old source n))) × (Proper 0 1_000_000 (zone_at cut.now 0)) }
     ensures grown { GrowsAs (parts_each (zone_at cut.now 0) (list_at words.old source n)) NoPair g words.old target words.new result }
     ensures kept { Kept target slot_words words.old words.new }
 {
     let mut grown = g;
-    let mut i = 0;
-    while i < n {
-        let at = source + i * ZONE_WORDS;
-        let Grown::Grew(next) = put_parts(words, at, cut, target, grown) else {
-            return Grown::Overflow;
-        };
-        grown = next;
-        i += 1;
+    for i in 0..n {
+        grown = put_parts(words, source + i * ZONE_WORDS, cut, target, grown)?;
     }
-    Grown::Grew(grown)
+    Ok(grown)
 }
 
 // The new list for the operand's zone at `cut`: the parts outside it of the n zones at `source`, built at `target`.
-fn without(words: &mut [i32], source: usize, n: usize, cut: usize, target: usize) -> Listed
-    requires { (Supply words.old source n target 0) × (Zones words.old cut 1 target) × (ShareNone (map zone (list_at words.old source n))) }
+fn without(
+    words: &mut [i32],
+    source: usize,
+    n: usize,
+    cut: usize,
+    target: usize,
+) -> Result<usize, Overflow>
+    requires { (Supply words.old source n target 0) × (Zones words.old cut 1 target) × (ShareNone (map Some (list_at words.old source n))) }
     ensures built { BuiltAs (without (zone_at words.old cut) (list_at words.old source n)) words.new target result }
     ensures kept { Kept target slot_words words.old words.new }
 {
     let mut w = [0i32; ZONE_WORDS];
     words::copy_zone(&mut w, 0, words, cut);
-    let Grown::Grew(g) = put_each(words, source, n, &w, target, growing::nothing()) else {
-        return Listed::Overflow;
-    };
-    Listed::Count(g.count)
+    let g = put_each(words, source, n, &w, target, growing::nothing())?;
+    Ok(g.count)
 }
 
 // For each of the operand's n zones in the slot at `base`, a new list in the place of the last: the lists stand to and fro in the two slots
 // behind it, from the one zone in the first of them on. The last is brought to `base`.
-fn without_each(words: &mut [i32], base: usize, n: usize) -> Listed
+fn without_each(words: &mut [i32], base: usize, n: usize) -> Result<usize, Overflow>
     requires { Operand words.old base n }
     ensures built { BuiltAs (without_each (list_at words.old base n) (list_at words.old (base + slot_words) 1)) words.new base result }
     ensures kept { Kept base (3 * slot_words) words.old words.new }
@@ -120,24 +117,23 @@ fn without_each(words: &mut [i32], base: usize, n: usize) -> Listed
     let mut here = first;
     let mut there = base + 2 * SLOT_WORDS;
     let mut count = 1;
-    let mut i = 0;
-    while i < n {
-        let Listed::Count(m) = without(words, here, count, base + i * ZONE_WORDS, there) else {
-            return Listed::Overflow;
-        };
-        let last = here;
-        here = there;
-        there = last;
-        count = m;
-        i += 1;
+    for i in 0..n {
+        count = without(words, here, count, base + i * ZONE_WORDS, there)?;
+        mem::swap(&mut here, &mut there);
     }
     list::bring(words, here, count, base);
-    Listed::Count(count)
+    Ok(count)
 }
 
 // `~`: the stretches of ticks from..to that lie in none of the n zones in the slot at `base`, listed there. The two slots behind it are free
 // afterwards, and all three where a list would have 129 zones.
-pub fn absent(words: &mut [i32], base: usize, n: usize, from: u32, to: u32) -> Listed
+pub fn absent(
+    words: &mut [i32],
+    base: usize,
+    n: usize,
+    from: u32,
+    to: u32,
+) -> Result<usize, Overflow>
     requires { (Source words.old base n) × (base + 3 * slot_words ≤ length words.old) × (from ≤ to) × (to ≤ 1_000_000) }
     ensures built { BuiltAs (absent from to (list_at words.old base n)) words.new base result }
     ensures kept { Kept base (3 * slot_words) words.old words.new }

@@ -1,4 +1,5 @@
 -- A list of zones of any number for `*`: the diagonal, and all compositions of at most n + (to − from) inner zones, n their number.
+use Rattle.std.specs.Prelude.{Some}
 use mathlib.Core.Path.{◌≡◌, refl, sym, subst}
 use mathlib.Core.Bool.{Bool, true, false}
 use mathlib.Core.Logic.Iff
@@ -16,7 +17,6 @@ use lib.Dec.{T}
 use lib.ListN.{length}
 use Rattle.limit.specs.Time.{Time}
 use Rattle.zone.specs.declared.Zone.{Zone}
-use Rattle.zone.specs.declared.MaybeZone.TheVariants.{Zone as zone}
 use Rattle.zone.specs.Zone.{Proper, Stretch, diagonal}
 use Rattle.zone.proofs.Laws.{contains_refl, diagonal_members, proper_diagonal}
 use Rattle.list.specs.Insert.{covered}
@@ -45,7 +45,7 @@ module _ {inner : List Zone} where
   made (suc k) {x} m =
       ⊎_elim (λ n. (1, single n, omega arith)) (λ n. longer (λ v l. made k l) (of_mem (pairs Compose (upto inner k) inner) n)) (append_cases inner m)
     where
-      longer : ((v : Zone) → Memᴰ v (upto inner k) → (j : ℕ) × Composed inner j v × (j ≤ k)) → Memᴰ (zone x) (pairs Compose (upto inner k) inner)
+      longer : ((v : Zone) → Memᴰ v (upto inner k) → (j : ℕ) × Composed inner j v × (j ≤ k)) → Memᴰ (Some x) (pairs Compose (upto inner k) inner)
           → (j : ℕ) × Composed inner j x × (j ≤ suc k)
       longer below n =
           let p = pairs_mem Compose (upto inner k) inner n in

@@ -1,4 +1,5 @@
 -- Lists of zones of any number, for each operator but `*`: what lies in them, and that their zones are proper.
+use Rattle.std.specs.Prelude.{Option, Some, None}
 use mathlib.Core.Path.{◌≡◌, sym, ap, subst}
 use mathlib.Core.Logic.Iff
 use mathlib.Core.Logic.{◌↔◌, ◌⊎◌, inl, inr, ⊎_map, ⊎_elim}
@@ -15,8 +16,6 @@ use mathlib.Core.List.{List, [], ◌∷◌, ◌++◌, map, Memᴰ}
 use Prim.Native.Nat.{ℕ, ◌≤◌}
 use Rattle.limit.specs.Time.{Time}
 use Rattle.zone.specs.declared.Zone.{Zone}
-use Rattle.zone.specs.declared.MaybeZone.{MaybeZone}
-use Rattle.zone.specs.declared.MaybeZone.TheVariants.{Zone as zone, Empty as empty}
 use Rattle.zone.specs.Zone.{In, InMaybe, Proper, Stretch, everything}
 use Rattle.zone.proofs.Laws.{everything_members, proper_everything, proper_meet, proper_compose}
 use Rattle.list.specs.Members.{Lies, AllProper}
@@ -47,41 +46,41 @@ module _ {A : Type 0} (of : A → Zone) (L : List A) where
 
 -- ---- the zones among answers, an empty answer being passed over
 
-unfoldable pub zones_of : List MaybeZone → List Zone
+unfoldable pub zones_of : List (Option Zone) → List Zone
 zones_of [] = []
-zones_of (empty ∷ rs) = zones_of rs
-zones_of (zone z ∷ rs) = z ∷ zones_of rs
+zones_of (None ∷ rs) = zones_of rs
+zones_of (Some z ∷ rs) = z ∷ zones_of rs
 
 -- each of them is an answer ..
-pub of_mem : (rs : List MaybeZone) {z : Zone} → Memᴰ z (zones_of rs) → Memᴰ (zone z) rs
+pub of_mem : (rs : List (Option Zone)) {z : Zone} → Memᴰ z (zones_of rs) → Memᴰ (Some z) rs
 unfolding zones_of
 of_mem [] m = absurd (not-nil m)
-of_mem (empty ∷ rs) m = tail (of_mem rs m)
-of_mem (zone a ∷ rs) m = ⊎_elim (λ e. head (ap zone e)) (λ n. tail (of_mem rs n)) (cases_cons m)
+of_mem (None ∷ rs) m = tail (of_mem rs m)
+of_mem (Some a ∷ rs) m = ⊎_elim (λ e. head (ap Some e)) (λ n. tail (of_mem rs n)) (cases_cons m)
 
 -- .. and each answer that is a zone is one of them
-pub mem_of : {z : Zone} (rs : List MaybeZone) → Memᴰ (zone z) rs → Memᴰ z (zones_of rs)
+pub mem_of : {z : Zone} (rs : List (Option Zone)) → Memᴰ (Some z) rs → Memᴰ z (zones_of rs)
 unfolding zones_of
 mem_of [] m = absurd (not-nil m)
-mem_of (empty ∷ rs) m = ⊎_elim (λ e. clash (cc)) (mem_of rs) (cases_cons m)
-mem_of {z} (zone a ∷ rs) m = ⊎_elim (λ e. let q : z ≡ a = cc in head q) (λ n. tail (mem_of rs n)) (cases_cons m)
+mem_of (None ∷ rs) m = ⊎_elim (λ e. clash (cc)) (mem_of rs) (cases_cons m)
+mem_of {z} (Some a ∷ rs) m = ⊎_elim (λ e. let q : z ≡ a = cc in head q) (λ n. tail (mem_of rs n)) (cases_cons m)
 
 -- in them lie the stretches of the answers
-pub zones_of_lies : (rs : List MaybeZone) (x y : Time) → Lies (zones_of rs) x y ↔ Offered rs x y
-zones_of_lies rs x y = (λ l. (zone l.in_zone, of_mem rs l.among, l.member), λ o. some o.0 o.1 o.2)
+pub zones_of_lies : (rs : List (Option Zone)) (x y : Time) → Lies (zones_of rs) x y ↔ Offered rs x y
+zones_of_lies rs x y = (λ l. (Some l.in_zone, of_mem rs l.among, l.member), λ o. some o.0 o.1 o.2)
   where
-    some : (r : MaybeZone) → Memᴰ r rs → InMaybe r x y → Lies (zones_of rs) x y
-    some (zone z) m i = lies (mem_of rs m) i
-    some empty m i = absurd i
+    some : (r : Option Zone) → Memᴰ r rs → InMaybe r x y → Lies (zones_of rs) x y
+    some (Some z) m i = lies (mem_of rs m) i
+    some None m i = absurd i
 
-pub zones_of_proper : {from to : ℕ} (rs : List MaybeZone) → ((z : Zone) → Memᴰ (zone z) rs → Proper from to z) → AllProper from to (zones_of rs)
+pub zones_of_proper : {from to : ℕ} (rs : List (Option Zone)) → ((z : Zone) → Memᴰ (Some z) rs → Proper from to z) → AllProper from to (zones_of rs)
 zones_of_proper rs h z m = h z (of_mem rs m)
 
 -- one answer: its stretches
-pub answer_lies : (r : MaybeZone) (x y : Time) → Lies (zones_of (r ∷ [])) x y ↔ InMaybe r x y
+pub answer_lies : (r : Option Zone) (x y : Time) → Lies (zones_of (r ∷ [])) x y ↔ InMaybe r x y
 unfolding zones_of
-answer_lies (zone z) x y = lies_one z x y
-answer_lies empty x y = (λ l. absurd (nothing_lies l), λ i. absurd i)
+answer_lies (Some z) x y = lies_one z x y
+answer_lies None x y = (λ l. absurd (nothing_lies l), λ i. absurd i)
 
 -- ---- `|`: either list
 

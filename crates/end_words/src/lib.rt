@@ -45,14 +45,16 @@ fn write_three(words: &mut [i32], some: i32, latest: i32, earliest: i32)
 }
 
 // Writes the words of the ends to the front; all others stay as they were.
-pub fn write_ends(words: &mut [i32], ends: Ends)
+pub fn write_ends(words: &mut [i32], ends: Option<Ends>)
     requires { (end_words ≤ length words.old) × (Few ends) }
     ensures { words.new ≡ words_of ends ++ drop end_words words.old }
 {
     match ends {
-        Ends::Nothing => write_three(words, 0, 0, 0),
-        Ends::Between(earliest, latest) => {
-            write_three(words, 1, latest_word(latest), earliest_word(earliest))
+        None => write_three(words, 0, 0, 0),
+        Some(ends) => {
+            let latest = latest_word(ends.latest);
+            let earliest = earliest_word(ends.earliest);
+            write_three(words, 1, latest, earliest);
         }
     }
 }

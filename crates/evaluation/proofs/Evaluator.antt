@@ -24,7 +24,7 @@ use Rattle.values.specs.Values.{OperandAt}
 use Rattle.purse.specs.declared.Evaluated.{Evaluated}
 use Rattle.values.proofs.Standings.{NoList}
 use Rattle.purse.specs.Purse.{Standing, EvaluatedAs}
-use Rattle.meaning.proofs.Evaluation.{One, Some, then_some, evaluates_well, evaluates_unique, evaluates_exists}
+use Rattle.meaning.proofs.Evaluation.{One, HasValue, then_some, evaluates_well, evaluates_unique, evaluates_exists}
 use Rattle.evaluation.proofs.Operands.{then_goes, then_stops}
 use Rattle.meaning.proofs.Finite.{recording_finite}
 use Rattle.primaries.proofs.Windows.{window_ticks}
@@ -83,7 +83,7 @@ module _ (window : Window) where
   one : (e : Expression) → One (Comes e)
   one e = evaluates_unique (Shows window.recording.bytes.now) window.from window.to e
 
-  some : (e : Expression) → Some (Comes e)
+  some : (e : Expression) → HasValue (Comes e)
   some e = evaluates_exists (recording_finite window.recording.bytes.now window.from window.to) window.some e
 
   module _ (f : Expression) {told : ℕ} {ws : List ℤ} {base n left : ℕ} (s : Standing (Comes f) told ws base n left) where

@@ -10,7 +10,7 @@ use Rattle.purse.specs.declared.Evaluated.{Evaluated}
 use Rattle.purse.specs.declared.Evaluated.TheVariants.{Listed, Overflow, Spent}
 use Rattle.purse.specs.Purse.{EvaluatedAs}
 use Rattle.purse.proofs.Values.{begun_with}
-use Rattle.meaning.proofs.Evaluation.{One, Some, then_begun}
+use Rattle.meaning.proofs.Evaluation.{One, HasValue, then_begun}
 use Rattle.values.proofs.Standings.{NoList, unlisted}
 
 module _ (operand : Value → Type 0) (next : List Zone → Value → Type 0) (told : ℕ) where
@@ -29,7 +29,7 @@ module _ (operand : Value → Type 0) (next : List Zone → Value → Type 0) (t
       record { whole = with_rounds r x.whole; means = goes p x.means refl; beyond = omega (arith, x.beyond, begun_with r x.whole) }
 
   -- an operand without one: so is the whole. Where rounds are spent the whole comes to something all the same, and begins no fewer
-  pub then_stops : One operand → Some (Then operand next) → (us ws : List ℤ) (at base : ℕ) (e : Evaluated) → NoList e
+  pub then_stops : One operand → HasValue (Then operand next) → (us ws : List ℤ) (at base : ℕ) (e : Evaluated) → NoList e
       → EvaluatedAs operand told us at e → EvaluatedAs (Then operand next) told ws base e
   then_stops one some us ws at base e k =
       unlisted (EvaluatedAs operand told us at) (EvaluatedAs (Then operand next) told ws base) e k

@@ -3,6 +3,9 @@
 //
 // specs/Expression.antt has the expressions, specs/Grammar.antt the texts that document 01 takes for them, specs/Refusal.antt
 // the causes 4 to 8. Which text is which expression is found in `parser`. Nothing is known here of recordings.
+//
+// A tree's nodes are numbered, and stand in words that the caller lends: there is no heap, and `decoded` of specs/Stored.antt is
+// what four words stand for.
 #![tactic(auto)]
 
 ghost use Rattle.std.specs.Prelude.{◌≡◌, true, ◌↔◌, ◌+◌, ◌*◌, ◌≤◌, length, get_or};

@@ -2,7 +2,6 @@
 pub mod Each
 pub mod Meaning
 mod Limits
-mod Numbers
 mod Peaks
 mod Seeing
 mod Examples

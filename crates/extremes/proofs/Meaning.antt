@@ -1,5 +1,6 @@
--- What follows of the ends of some stretches by their meaning: there is one answer, it is Nothing exactly where there is no stretch, and it goes by
+-- What follows of the ends of some stretches by their meaning: there is one answer, it is none exactly where there is no stretch, and it goes by
 -- the stretches alone.
+use Rattle.std.specs.Prelude.{Option, Some, None}
 use mathlib.Core.Path.{◌≡◌, refl, ap}
 use mathlib.Core.Logic.{◌↔◌}
 use Prim.Native.Nat.{ℕ, ◌+◌, ◌≤◌, ◌<◌}
@@ -8,7 +9,7 @@ use native.Mathlib.Nat.{mul-le-mul_right}
 use native.Mathlib.Omega.{arith}
 use Rattle.limit.specs.Time.{Time, origin, at_tick, ◌≤ᵀ◌, ◌<ᵀ◌}
 use Rattle.limit.proofs.Strict.{not_both, ≤-<-trans, tick-<}
-use Rattle.extremes.specs.Ends.{Extreme, Reached, Unreached, tick_of, Ends, Nothing, Between, At, EndBetween, EndsAs, EndsAs.none, EndsAs.some}
+use Rattle.extremes.specs.Ends.{Extreme, Reached, Unreached, tick_of, Ends, At, EndBetween, EndsAs, EndsAs.none, EndsAs.some}
 
 one : Time
 one = at_tick 1
@@ -44,7 +45,7 @@ module _ (Fits : Time → Type 0) where
   ]
 
   -- Theorem: no two answers meet what is asked.
-  pub ends_unique : (p q : Ends) → EndsAs Fits p → EndsAs Fits q → p ≡ q
+  pub ends_unique : (p q : Option Ends) → EndsAs Fits p → EndsAs Fits q → p ≡ q
   ends_unique _ _ (none f) (none g) = refl
   ends_unique _ _ (none f) (some {earliest = a} h k l) = let c = near a h in absurd (f c.0 c.1)
   ends_unique _ _ (some {earliest = a} h k l) (none g) = let c = near a h in absurd (g c.0 c.1)
@@ -58,12 +59,12 @@ module _ (Fits : Time → Type 0) where
       cc
 
   -- Theorem: "None" is given exactly if no stretch fits.
-  pub ends_none : (p : Ends) → EndsAs Fits p → (p ≡ Nothing) ↔ ((y : Time) → ¬ Fits y)
+  pub ends_none : (p : Option Ends) → EndsAs Fits p → (p ≡ None) ↔ ((y : Time) → ¬ Fits y)
   ends_none _ (none f) = (λ _. f, λ _. refl)
   ends_none _ (some {earliest = a} h k l) = (λ e. let z : ◌≡◌ {A = ℕ} 0 1 = cc in absurd (omega arith), λ f. let c = near a h in absurd (f c.0 c.1))
 
   -- Both ends are no later than a tick that every stretch ends up to.
-  pub ends_within : {a b : Extreme} (d : ℕ) → ((y : Time) → Fits y → y ≤ᵀ at_tick d) → EndsAs Fits (Between a b) → (tick_of a ≤ d) × (tick_of b ≤ d)
+  pub ends_within : {a b : Extreme} (d : ℕ) → ((y : Time) → Fits y → y ≤ᵀ at_tick d) → EndsAs Fits (Some (record { earliest = a; latest = b })) → (tick_of a ≤ d) × (tick_of b ≤ d)
   ends_within d f (some {earliest = a} {latest = b} h k l) =
       let until : EndBetween Fits (Reached 0) (Reached d) = λ y i. (record { le = omega arith }, f y i) in (no_earlier a (Reached 0) (Reached d) h until, no_earlier b (Reached 0) (Reached d) k until)
 
@@ -73,6 +74,6 @@ module _ {F G : Time → Type 0} (same : (y : Time) → F y ↔ G y) where
   at_alike (Reached v) h = (same (at_tick v)).0 h
   at_alike (Unreached v) h = (λ e p. let c = h.0 e p in (c.0, (same c.0).0 c.1, c.2), λ y e g. h.1 y e ((same y).1 g))
 
-  pub ends_alike : {p : Ends} → EndsAs F p → EndsAs G p
+  pub ends_alike : {p : Option Ends} → EndsAs F p → EndsAs G p
   ends_alike (none f) = none (λ y g. f y ((same y).1 g))
   ends_alike (some {earliest = a} {latest = b} h k l) = some (at_alike a h) (at_alike b k) (λ y g. l y ((same y).1 g))

@@ -1,4 +1,5 @@
 -- The ends that are put together from a list of tight zones are those of its stretches from the tick.
+use Rattle.std.specs.Prelude.{Option, Some, None}
 use mathlib.Core.Path.{◌≡◌, refl, sym, subst}
 use mathlib.Core.Bool.{Bool, true, false, cond}
 use mathlib.Core.Logic.{◌↔◌, ◌⊎◌, inl, inr, ⊎_map, ⊎_elim}
@@ -20,8 +21,6 @@ use Rattle.limit.proofs.Strict.{not_both}
 use Rattle.limit.proofs.Common.{within_widen}
 use Rattle.limit.proofs.Order as order
 use Rattle.zone.specs.declared.Zone.{Zone}
-use Rattle.zone.specs.declared.MaybeZone.{MaybeZone}
-use Rattle.zone.specs.declared.MaybeZone.TheVariants.{Zone as zone, Empty as empty}
 use Rattle.zone.specs.Zone.{In, InMaybe, Tight, TightMaybe, Side, on-end, on-nend, limit, upper, lower, Keeps, compose, diagonal}
 use Rattle.zone.proofs.Sharp.{on}
 use Rattle.zone.proofs.Fine.{multiple}
@@ -29,7 +28,6 @@ use Rattle.zone.proofs.Laws.{attained, approached, compose_members, compose_tigh
 use Rattle.list.specs.Members.{Lies}
 use Rattle.list.proofs.Members.{lies}
 use Rattle.extremes.specs.declared.Seen.{Seen}
-use Rattle.extremes.specs.declared.Seen.TheVariants.{Unseen, Limits}
 use Rattle.extremes.specs.Ends.{tick_of, At, EndsAs, EndsAs.none, EndsAs.some}
 use Rattle.extremes.specs.Steps.{see, latest, earliest, told}
 use Rattle.extremes.proofs.Each.{see_each}
@@ -81,21 +79,21 @@ module _ {S R : Time → Time → Type 0} where
 -- ---- what is seen
 
 -- there is no stretch where nothing is seen; else the limits are the greatest of the stretches S
-abbrev Sees : (Time → Time → Type 0) → Seen → Type 0
-Sees S Unseen = (x y : Time) → ¬ S x y
-Sees S (Limits e ne) = Peak S on-end e × Peak S on-nend ne
+abbrev Sees : (Time → Time → Type 0) → Option Seen → Type 0
+Sees S None = (x y : Time) → ¬ S x y
+Sees S (Some s) = Peak S on-end s.end × Peak S on-nend s.nend
 
-sees_same : {S R : Time → Time → Type 0} (seen : Seen) → ((x y : Time) → S x y ↔ R x y) → Sees S seen → Sees R seen
-sees_same Unseen f h = λ x y r. h x y ((f x y).1 r)
-sees_same (Limits e ne) f h = (peak_same f h.0, peak_same f h.1)
+sees_same : {S R : Time → Time → Type 0} (seen : Option Seen) → ((x y : Time) → S x y ↔ R x y) → Sees S seen → Sees R seen
+sees_same None f h = λ x y r. h x y ((f x y).1 r)
+sees_same (Some s) f h = (peak_same f h.0, peak_same f h.1)
 
 -- One answer more: what was seen, and its members.
-see_sees : (S : Time → Time → Type 0) (seen : Seen) (r : MaybeZone) → Sees S seen → TightMaybe r → Sees (λ x y. S x y ⊎ InMaybe r x y) (see seen r)
-see_sees S seen empty h t = sees_same seen (λ x y. (inl, ⊎_elim (λ i. i) (λ i. absurd i))) h
-see_sees S Unseen (zone z) h t =
+see_sees : (S : Time → Time → Type 0) (seen : Option Seen) (r : Option Zone) → Sees S seen → TightMaybe r → Sees (λ x y. S x y ⊎ InMaybe r x y) (see seen r)
+see_sees S seen None h t = sees_same seen (λ x y. (inl, ⊎_elim (λ i. i) (λ i. absurd i))) h
+see_sees S None (Some z) h t =
     let f : (x y : Time) → In z x y ↔ (S x y ⊎ In z x y) = λ x y. (inr, ⊎_elim (λ i. absurd (h x y i)) (λ i. i)) in
     (peak_same f (peak_zone t on-end), peak_same f (peak_zone t on-nend))
-see_sees S (Limits e ne) (zone z) h t = (peak_both e z.end h.0 (peak_zone t on-end), peak_both ne z.nend h.1 (peak_zone t on-nend))
+see_sees S (Some s) (Some z) h t = (peak_both s.end z.end h.0 (peak_zone t on-end), peak_both s.nend z.nend h.1 (peak_zone t on-nend))
 
 -- ---- the stretches from tick s
 
@@ -114,7 +112,7 @@ from_members s {z} t x y =
     )
 
 -- After each listed zone: what was seen before, and the list's stretches from tick s.
-each_sees : (s : ℕ) (L : List Zone) (S : Time → Time → Type 0) (seen : Seen) → Sees S seen → ((z : Zone) → Memᴰ z L → Tight z) → Sees (λ x y. S x y ⊎ From s L x y) (see_each s seen L)
+each_sees : (s : ℕ) (L : List Zone) (S : Time → Time → Type 0) (seen : Option Seen) → Sees S seen → ((z : Zone) → Memᴰ z L → Tight z) → Sees (λ x y. S x y ⊎ From s L x y) (see_each s seen L)
 unfolding see_each
 each_sees s [] S seen h t = sees_same seen (λ x y. (inl, ⊎_elim (λ i. i) (λ i. absurd (not-nil i.1.among)))) h
 each_sees s (z ∷ L) S seen h t =
@@ -173,13 +171,13 @@ module _ (s : ℕ) (L : List Zone) where
         λ y f. <-≤ (over y f),
       )
 
-  sees_ends : (seen : Seen) → Sees (From s L) seen → EndsAs F (told seen)
-  sees_ends Unseen h = none (λ y f. h (at_tick s) y (from y f))
-  sees_ends (Limits e ne) h =
-      let a = earliest_at ne h.1 in
-      let b = latest_at e h.0 in
+  sees_ends : (seen : Option Seen) → Sees (From s L) seen → EndsAs F (told seen)
+  sees_ends None h = none (λ y f. h (at_tick s) y (from y f))
+  sees_ends (Some seen) h =
+      let a = earliest_at seen.nend h.1 in
+      let b = latest_at seen.end h.0 in
       some a.0 b.0 (λ y f. (a.1 y f, b.1 y f))
 
   -- The ends told from a list of tight zones are those of its stretches from tick s.
-  pub ends_told : ((z : Zone) → Memᴰ z L → Tight z) → EndsAs F (told (see_each s Unseen L))
-  ends_told t = sees_ends (see_each s Unseen L) (sees_same (see_each s Unseen L) (λ x y. (⊎_elim (λ i. absurd i) (λ i. i), inr)) (each_sees s L (λ x y. ⊥) Unseen (λ x y i. i) t))
+  pub ends_told : ((z : Zone) → Memᴰ z L → Tight z) → EndsAs F (told (see_each s None L))
+  ends_told t = sees_ends (see_each s None L) (sees_same (see_each s None L) (λ x y. (⊎_elim (λ i. absurd i) (λ i. i), inr)) (each_sees s L (λ x y. ⊥) None (λ x y i. i) t))

@@ -1,12 +1,11 @@
 -- Document 02, CR 9: "the earliest and the latest end of all fitting stretches that start at s, each with reached or not reached". `Fits y` says that
 -- the stretch from s to y fits; which stretches these are is said by whoever asks. No zone is named here.
-use Rattle.std.specs.Prelude.{ℕ, ◌+◌, ◌*◌}
+use Rattle.std.specs.Prelude.{ℕ, ◌+◌, ◌*◌, Option, Some, None}
 use Rattle.std.proofs.Common.{mul-pos}
 use Rattle.limit.specs.Time.{Time, origin, at_tick, ◌≤ᵀ◌, ◌<ᵀ◌, ◌≈ᵀ◌}
 pub use Rattle.extremes.specs.declared.Extreme.{Extreme}
 pub use Rattle.extremes.specs.declared.Extreme.TheVariants.{Reached, Unreached}
 pub use Rattle.extremes.specs.declared.Ends.{Ends}
-pub use Rattle.extremes.specs.declared.Ends.TheVariants.{Nothing, Between}
 
 -- its tick
 abbrev pub tick_of : Extreme → ℕ
@@ -34,6 +33,6 @@ module _ (Fits : Time → Type 0) where
   EndBetween earliest latest = (y : Time) → Fits y → (at_tick (tick_of earliest) ≤ᵀ y) × (y ≤ᵀ at_tick (tick_of latest))
 
   -- "None" is given exactly if no stretch from s fits; else there are both ends
-  pub data EndsAs : Ends → Type 0 where
-    none : ((y : Time) → ¬ Fits y) → EndsAs Nothing
-    some : {earliest latest : Extreme} → At earliest → At latest → EndBetween earliest latest → EndsAs (Between earliest latest)
+  pub data EndsAs : Option Ends → Type 0 where
+    none : ((y : Time) → ¬ Fits y) → EndsAs None
+    some : {earliest latest : Extreme} → At earliest → At latest → EndBetween earliest latest → EndsAs (Some (record { earliest = earliest; latest = latest }))

@@ -1,19 +1,17 @@
 -- Private contracts alone cite this file: the ends as they are put together from a list of zones.
-use Rattle.std.specs.Prelude.{ℕ, suc, ℤ, pos, negsuc}
+use Rattle.std.specs.Prelude.{ℕ, suc, ℤ, pos, negsuc, Option, Some, None}
 use Rattle.limit.specs.declared.Limit.{Limit}
 use Rattle.limit.specs.declared.Limit.TheVariants.{AtMost, Below}
 use Rattle.limit.specs.Limit.{greater}
-use Rattle.zone.specs.declared.MaybeZone.{MaybeZone}
-use Rattle.zone.specs.declared.MaybeZone.TheVariants.{Zone as zone, Empty as empty}
 use Rattle.extremes.specs.declared.Seen.{Seen}
-use Rattle.extremes.specs.declared.Seen.TheVariants.{Unseen, Limits}
-use Rattle.extremes.specs.Ends.{Extreme, Reached, Unreached, Ends, Nothing, Between}
+use Rattle.extremes.specs.Ends.{Extreme, Reached, Unreached, Ends}
+use Rattle.zone.specs.declared.Zone.{Zone}
 
 -- one answer of a composition more
-abbrev pub see : Seen → MaybeZone → Seen
-see seen empty = seen
-see Unseen (zone z) = Limits z.end z.nend
-see (Limits e ne) (zone z) = Limits (greater e z.end) (greater ne z.nend)
+abbrev pub see : Option Seen → Option Zone → Option Seen
+see seen None = seen
+see None (Some z) = Some (record { end = z.end; nend = z.nend })
+see (Some s) (Some z) = Some (record { end = greater s.end z.end; nend = greater s.nend z.nend })
 
 -- how far a number is above 0, and how far below
 abbrev pub above : ℤ → ℕ
@@ -33,6 +31,6 @@ abbrev pub earliest : Limit → Extreme
 earliest (AtMost v) = Reached (under v)
 earliest (Below v) = Unreached (under v)
 
-abbrev pub told : Seen → Ends
-told Unseen = Nothing
-told (Limits e ne) = Between (earliest ne) (latest e)
+abbrev pub told : Option Seen → Option Ends
+told None = None
+told (Some s) = Some (record { earliest = earliest s.nend; latest = latest s.end })

@@ -15,7 +15,7 @@ ghost use Rattle.extremes.specs.Steps.{see, above, under, latest, earliest, told
 
 use limit::Limit;
 use words::ZONE_WORDS;
-use zone::{MaybeZone, Zone};
+use zone::Zone;
 
 // The earliest or the latest end, in whole ticks: reached by some stretch, or only approached.
 #[derive(Clone, Copy)]
@@ -24,20 +24,21 @@ pub enum Extreme {
     Unreached(u32),
 }
 
-// The earliest and the latest end of some stretches, in this order, or that there is no stretch.
+// The earliest and the latest end of some stretches.
 #[derive(Clone, Copy)]
-pub enum Ends {
-    Nothing,
-    Between(Extreme, Extreme),
+pub struct Ends {
+    pub earliest: Extreme,
+    pub latest: Extreme,
 }
 
-// What is seen of the stretches so far: none, or the greatest limits on their ends and on their negated ends.
+// What is seen of some stretches: the greatest limits on their ends and on their negated ends.
 #[derive(Clone, Copy)]
-enum Seen {
-    Unseen,
-    Limits(Limit, Limit),
+struct Seen {
+    end: Limit,
+    nend: Limit,
 }
 
+// By the limits' own order: a derived one would put every reached limit before all others.
 fn greater(a: Limit, b: Limit) -> Limit
     ensures { result ≡ greater a b }
 {
@@ -45,31 +46,34 @@ fn greater(a: Limit, b: Limit) -> Limit
 }
 
 // One zone more, or none.
-fn see(seen: Seen, more: MaybeZone) -> Seen
+fn see(seen: Option<Seen>, more: Option<Zone>) -> Option<Seen>
     ensures { result ≡ see seen more }
 {
-    let MaybeZone::Zone(z) = more else {
+    let Some(z) = more else {
         return seen;
     };
     let end = z.end;
     let nend = z.nend;
-    match seen {
-        Seen::Unseen => Seen::Limits(end, nend),
-        Seen::Limits(e, ne) => Seen::Limits(greater(e, end), greater(ne, nend)),
-    }
+    let Some(before) = seen else {
+        return Some(Seen { end, nend });
+    };
+    Some(Seen {
+        end: greater(before.end, end),
+        nend: greater(before.nend, nend),
+    })
 }
 
 // How far a number is above 0, and how far below.
 fn above(v: i32) -> u32
     ensures { result ≡ above v }
 {
-    if v < 0 { 0 } else { v as u32 }
+    v.max(0).unsigned_abs()
 }
 
 fn under(v: i32) -> u32
     ensures { result ≡ under v }
 {
-    if v < 0 { (0 - v as i64) as u32 } else { 0 }
+    v.min(0).unsigned_abs()
 }
 
 // The latest end of stretches whose greatest limit on the end is this, and the earliest of those whose greatest limit on the negated end is.
@@ -91,28 +95,27 @@ fn earliest(l: Limit) -> Extreme
     }
 }
 
-fn told(seen: Seen) -> Ends
+fn told(seen: Option<Seen>) -> Option<Ends>
     ensures { result ≡ told seen }
 {
-    match seen {
-        Seen::Unseen => Ends::Nothing,
-        Seen::Limits(e, ne) => Ends::Between(earliest(ne), latest(e)),
-    }
+    let all = seen?;
+    Some(Ends {
+        earliest: earliest(all.nend),
+        latest: latest(all.end),
+    })
 }
 
-// The ends of the stretches from tick `start` that lie in the zones in front of the words. The point at `start` composed with a zone is just
+// The ends of the stretches from tick `start` that lie in the zones in front of the words, or `None` where there are none. The point at `start` composed with a zone is just
 // what starts there of the zone.
-pub fn ends_of(words: &[i32], zones: usize, start: u32) -> Ends
+pub fn ends_of(words: &[i32], zones: usize, start: u32) -> Option<Ends>
     requires { Askable words.now zones start }
     ensures { EndsAs (Lies (list_at words.now 0 zones) (at_tick start)) result }
 {
     let point = Zone::diagonal(start, start);
-    let mut seen = Seen::Unseen;
-    let mut i = 0;
-    while i < zones {
+    let mut seen = None;
+    for i in 0..zones {
         let z = words::read_zone(words, i * ZONE_WORDS);
         seen = see(seen, point.compose(z));
-        i += 1;
     }
     told(seen)
 }

@@ -1,4 +1,5 @@
 -- The loops that put zones into a growing list: what has been put, and what is still to come.
+use Rattle.std.specs.Prelude.{Option, None}
 use mathlib.Core.Path.{◌≡◌, refl, sym, ap, subst, ◌∙◌}
 use mathlib.Core.Logic.{◌⊎◌}
 use mathlib.Core.List.{List, [], ◌∷◌, ◌++◌}
@@ -6,8 +7,6 @@ use Prim.Native.Nat.{ℕ, ◌+◌, ◌≤◌}
 use native.Mathlib.Omega.{arith}
 use lib.IntN.{ℤ}
 use Rattle.zone.specs.declared.Zone.{Zone}
-use Rattle.zone.specs.declared.MaybeZone.{MaybeZone}
-use Rattle.zone.specs.declared.MaybeZone.TheVariants.{Empty as empty}
 use Rattle.words.specs.Words.{zone_at}
 use Rattle.words.proofs.Words.{same_zone}
 use Rattle.list.specs.Insert.{Built, overflow, insert_each, then}
@@ -24,7 +23,7 @@ pub zone_kept : {ws vs : List ℤ} {target : ℕ} (at : ℕ) → Kept target 768
 zone_kept {ws} {vs} at k h = same_zone vs ws at at (kept_apart k h)
 
 -- the list L₀ that stood as g₀ has grown into the one that stands as g, and with `todo` put it comes to `whole`
-pub record Going (todo : List MaybeZone) (whole : Built) (g₀ : Growing) (L₀ : List Zone) (target : ℕ) (ws₀ ws : List ℤ) (g : Growing) : Type 0 where
+pub record Going (todo : List (Option Zone)) (whole : Built) (g₀ : Growing) (L₀ : List Zone) (target : ℕ) (ws₀ ws : List ℤ) (g : Growing) : Type 0 where
   pub stands : Stands ws target g
   pub frame : Kept target 768 ws₀ ws
   pub value : insert_each todo (list_at ws target g.count) ≡ whole
@@ -34,19 +33,19 @@ pub record Going (todo : List MaybeZone) (whole : Built) (g₀ : Growing) (L₀ 
 pub grown_stands : {built : Built} {Counts : ℕ → Type 0} {g h : Growing} {L : List Zone} {ws vs : List ℤ} {target n : ℕ} → Slot ws target n → Kept target 768 ws vs → Growth built Counts g L vs target h → Stands vs target h
 grown_stands {h = h} s k b = record { slot = still_slot s k b.holds.few; late = subst (NoLater h.latest) (sym b.holds.zones) b.late }
 
-pub going_start : (todo : List MaybeZone) (target : ℕ) (ws : List ℤ) (g : Growing) → Stands ws target g → Going todo (insert_each todo (list_at ws target g.count)) g (list_at ws target g.count) target ws ws g
+pub going_start : (todo : List (Option Zone)) (target : ℕ) (ws : List ℤ) (g : Growing) → Stands ws target g → Going todo (insert_each todo (list_at ws target g.count)) g (list_at ws target g.count) target ws ws g
 going_start todo target ws g s = record { stands = s; frame = kept_refl target 768 ws; value = refl; alters = λ S m. m }
 
 module _ {whole : Built} {g₀ : Growing} {L₀ : List Zone} {target : ℕ} {ws₀ ws : List ℤ} {g : Growing} where
-  pub going_same : {todo other : List MaybeZone} → todo ≡ other → Going todo whole g₀ L₀ target ws₀ ws g → Going other whole g₀ L₀ target ws₀ ws g
-  going_same e w = subst (λ (t : List MaybeZone). Going t whole g₀ L₀ target ws₀ ws g) e w
+  pub going_same : {todo other : List (Option Zone)} → todo ≡ other → Going todo whole g₀ L₀ target ws₀ ws g → Going other whole g₀ L₀ target ws₀ ws g
+  going_same e w = subst (λ (t : List (Option Zone)). Going t whole g₀ L₀ target ws₀ ws g) e w
 
   -- an empty answer is passed over
-  pub going_past : {todo : List MaybeZone} → Going (empty ∷ todo) whole g₀ L₀ target ws₀ ws g → Going todo whole g₀ L₀ target ws₀ ws g
+  pub going_past : {todo : List (Option Zone)} → Going (None ∷ todo) whole g₀ L₀ target ws₀ ws g → Going todo whole g₀ L₀ target ws₀ ws g
   unfolding insert_each
   going_past w = record { stands = w.stands; frame = w.frame; value = w.value; alters = w.alters }
 
-  module _ (rs todo : List MaybeZone) (w : Going (rs ++ todo) whole g₀ L₀ target ws₀ ws g) where
+  module _ (rs todo : List (Option Zone)) (w : Going (rs ++ todo) whole g₀ L₀ target ws₀ ws g) where
     both : then (insert_each rs (list_at ws target g.count)) (insert_each todo) ≡ whole
     both = sym (insert_each_append rs todo (list_at ws target g.count)) ∙ w.value
 
@@ -65,12 +64,12 @@ module _ {whole : Built} {g₀ : Growing} {L₀ : List Zone} {target : ℕ} {ws�
     going_overflow o = (sym both ∙ ap (λ (r : Built). then r (insert_each todo)) o.0, o.1)
 
   -- nothing is left to put
-  pub going_end : {todo : List MaybeZone} → todo ≡ [] → Going todo whole g₀ L₀ target ws₀ ws g → {Counts : ℕ → Type 0} (n : ℕ) → Counts n → g.pairs ≡ g₀.pairs + n → Growth whole Counts g₀ L₀ ws target g
+  pub going_end : {todo : List (Option Zone)} → todo ≡ [] → Going todo whole g₀ L₀ target ws₀ ws g → {Counts : ℕ → Type 0} (n : ℕ) → Counts n → g.pairs ≡ g₀.pairs + n → Growth whole Counts g₀ L₀ ws target g
   unfolding insert_each
   going_end e w n c p =
       record {
         list = list_at ws target g.count;
-        value = sym w.value ∙ ap (λ (t : List MaybeZone). insert_each t (list_at ws target g.count)) e;
+        value = sym w.value ∙ ap (λ (t : List (Option Zone)). insert_each t (list_at ws target g.count)) e;
         holds = holds_same ws target g.count w.stands.slot.few;
         alters = w.alters;
         composed = n;

@@ -1,4 +1,5 @@
 -- How late the zones of a list start.
+use Rattle.std.specs.Prelude.{Some}
 use mathlib.Core.Path.{◌≡◌, sym, ap, subst, ◌∙◌}
 use mathlib.Core.Bool.{Bool, true, false, ◌&&◌}
 use mathlib.Core.Logic.{◌⊎◌, inl, inr}
@@ -15,7 +16,6 @@ use Rattle.limit.specs.Limit.{◌≤ᴸ◌, code, decode, Small, lesser, greater
 use Rattle.limit.proofs.Coding.{decode_order, decode_code}
 use Rattle.limit.proofs.Order.{≤_trans, lesser_l, lesser_r, greater_l, greater_r}
 use Rattle.zone.specs.declared.Zone.{Zone}
-use Rattle.zone.specs.declared.MaybeZone.TheVariants.{Zone as zone}
 use Rattle.zone.proofs.Laws.{ranged, contains_starts}
 use Rattle.words.specs.Words.{word, zone_at}
 use Rattle.list.specs.Insert.{insert, placed}
@@ -37,7 +37,7 @@ later_apart z f g L late y m = (λ t. f (≤_trans (contains_starts y z t).0 (la
 pub late_placed : {latest r : Latest} (z : Zone) (L : List Zone) {M : List Zone} → insert z L ≡ placed M → NoLater latest L → Takes latest z r → NoLater r M
 late_placed {r = r} z L e late t y m = go (puts_mem (placed_puts z L e) m)
   where
-    go : Memᴰ y L ⊎ Memᴰ (zone y) (zone z ∷ []) → NotLater r y
+    go : Memᴰ y L ⊎ Memᴰ (Some y) (Some z ∷ []) → NotLater r y
     go (inl n) = t.others y (late y n)
     go (inr n) = let p = eq_of_singleton n in let q : y ≡ z = cc in subst (NotLater r) (sym q) t.new
 

@@ -1,12 +1,11 @@
 -- What the loops that put zones go by: puts may be made in parts, and a mark that says whether some put was placed tells whether the list
 -- has changed.
+use Rattle.std.specs.Prelude.{Option, Some, None}
 use mathlib.Core.Path.{◌≡◌, refl, sym, subst}
 use mathlib.Core.List.Memᴰ
 use mathlib.Core.List.{List, [], ◌∷◌, ◌++◌}
 use Prim.Native.Nat.{ℕ, zero, suc}
 use Rattle.zone.specs.declared.Zone.{Zone}
-use Rattle.zone.specs.declared.MaybeZone.{MaybeZone}
-use Rattle.zone.specs.declared.MaybeZone.TheVariants.{Zone as zone, Empty as empty}
 use Rattle.list.specs.Insert.{Put, away, placed, overflow, insert, after, insert_each, then}
 use Rattle.list.specs.Members.{Covered}
 use Rattle.growing.specs.Growth.{Alters}
@@ -14,11 +13,11 @@ use Rattle.list.proofs.Coverage.{puts_keep, puts_new, placed_puts, placed_new}
 
 -- ---- puts in parts
 
-pub insert_each_append : (rs ss : List MaybeZone) (L : List Zone) → insert_each (rs ++ ss) L ≡ then (insert_each rs L) (insert_each ss)
+pub insert_each_append : (rs ss : List (Option Zone)) (L : List Zone) → insert_each (rs ++ ss) L ≡ then (insert_each rs L) (insert_each ss)
 unfolding insert_each
 insert_each_append [] ss L = refl
-insert_each_append (empty ∷ rs) ss L = insert_each_append rs ss L
-insert_each_append (zone z ∷ rs) ss L = go (λ K. insert_each_append rs ss K) (insert z L)
+insert_each_append (None ∷ rs) ss L = insert_each_append rs ss L
+insert_each_append (Some z ∷ rs) ss L = go (λ K. insert_each_append rs ss K) (insert z L)
   where
     go : ((K : List Zone) → insert_each (rs ++ ss) K ≡ then (insert_each rs K) (insert_each ss)) → (p : Put)
         → after p L (insert_each (rs ++ ss)) ≡ then (after p L (insert_each rs)) (insert_each ss)

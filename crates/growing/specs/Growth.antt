@@ -1,16 +1,14 @@
 -- What puts into a list that is there already answer.
-use Rattle.std.specs.Prelude.{◌≡◌, ℕ, zero, suc, ◌+◌, ℤ}
+use Rattle.std.specs.Prelude.{◌≡◌, ℕ, zero, suc, ◌+◌, ℤ, Option, Result, Ok, Err}
 use mathlib.Core.List.{List, Memᴰ}
 use Rattle.limit.specs.Limit.{◌≤ᴸ◌, decode}
 use Rattle.zone.specs.declared.Zone.{Zone}
-use Rattle.zone.specs.declared.MaybeZone.{MaybeZone}
+use Rattle.list.specs.declared.Overflow.{Overflow}
 use Rattle.list.specs.Insert.{Built, listed, overflow, insert_each}
 use Rattle.list.specs.Members.{Covered}
 use Rattle.list.specs.Slots.{Free, Slot, list_at, Holds, Sound}
 use Rattle.growing.specs.declared.Latest.{Latest}
 use Rattle.growing.specs.declared.Growing.{Growing}
-use Rattle.growing.specs.declared.Grown.{Grown}
-use Rattle.growing.specs.declared.Grown.TheVariants.{Grew, Overflow}
 
 -- z starts no later: neither its upper limit on start nor its lower one is later
 pub record NotLater (latest : Latest) (z : Zone) : Type 0 where
@@ -54,14 +52,14 @@ pub record Growth (built : Built) (Counts : ℕ → Type 0) (g : Growing) (L : L
   pub late : NoLater h.latest list
 
 -- .. or one of the puts would leave 129 zones, and the slot is free; how many pairs were composed until then is not told
-abbrev pub GrownAs : Built → (ℕ → Type 0) → Growing → List Zone → List ℤ → ℕ → Grown → Type 0
-GrownAs built Counts g L vs target (Grew h) = Growth built Counts g L vs target h
-GrownAs built Counts g L vs target Overflow = (built ≡ overflow) × Free vs target
+abbrev pub GrownAs : Built → (ℕ → Type 0) → Growing → List Zone → List ℤ → ℕ → Result Growing Overflow → Type 0
+GrownAs built Counts g L vs target (Ok h) = Growth built Counts g L vs target h
+GrownAs built Counts g L vs target (Err e) = (built ≡ overflow) × Free vs target
 
 -- no pair
 abbrev pub NoPair : ℕ → Type 0
 NoPair n = n ≡ 0
 
 -- the zones `offered`, put into the list that stands as g among the words ws, with the words vs after
-abbrev pub GrowsAs : List MaybeZone → (ℕ → Type 0) → Growing → List ℤ → ℕ → List ℤ → Grown → Type 0
+abbrev pub GrowsAs : List (Option Zone) → (ℕ → Type 0) → Growing → List ℤ → ℕ → List ℤ → Result Growing Overflow → Type 0
 GrowsAs offered Counts g ws target vs = GrownAs (insert_each offered (list_at ws target g.count)) Counts g (list_at ws target g.count) vs target

@@ -4,8 +4,7 @@
 // all of the list lies apart from them, and goes last at once.
 #![tactic(auto)]
 
-ghost use Rattle.std.specs.Prelude.{[], ◌∷◌};
-ghost use Rattle.zone.specs.declared.MaybeZone.TheVariants.{Zone as zone};
+ghost use Rattle.std.specs.Prelude.{[], ◌∷◌, Some};
 ghost use Rattle.zone.specs.Zone.{Ranged};
 ghost use Rattle.words.specs.Words.{zone_at};
 ghost use Rattle.list.specs.Members.{Apart};
@@ -13,7 +12,7 @@ ghost use Rattle.list.specs.Slots.{slot_words, list_at, Kept, InsertAs};
 ghost use Rattle.growing.specs.Growth.{Unsurpassed, Stands, Begins, NoPair, GrowsAs};
 ghost use Rattle.growing.specs.Steps.{LaterAs, Takes, GrownBy};
 
-use list::Inserted;
+use list::Overflow;
 use words::ZONE_WORDS;
 use zone::Zone;
 
@@ -32,12 +31,6 @@ pub struct Growing {
     pub changed: usize,
     pub pairs: usize,
     pub latest: Latest,
-}
-
-#[derive(Clone, Copy)]
-pub enum Grown {
-    Grew(Growing),
-    Overflow,
 }
 
 // Beyond all words of zones inside 0..1,000,000.
@@ -80,25 +73,26 @@ pub fn standing(count: usize) -> Growing
 fn is_later(latest: Latest, w: &[i32; ZONE_WORDS]) -> bool
     ensures { LaterAs latest (zone_at w.now 0) result }
 {
-    let start = latest.start;
-    let nstart = latest.nstart;
-    (start < w[0]) & (w[1] < nstart)
+    (latest.start < w[0]) & (w[1] < latest.nstart)
 }
 
 // How late the zones start with the one of six words w among them.
 fn with_zone(latest: Latest, w: &[i32; ZONE_WORDS]) -> Latest
     ensures { Takes latest (zone_at w.now 0) result }
 {
-    let start = latest.start;
-    let nstart = latest.nstart;
     Latest {
-        start: limit::greater(start, w[0]),
-        nstart: limit::lesser(nstart, w[1]),
+        start: limit::greater(latest.start, w[0]),
+        nstart: limit::lesser(latest.nstart, w[1]),
     }
 }
 
 // Puts the zone of six words w.
-fn put(words: &mut [i32], target: usize, g: Growing, w: &[i32; ZONE_WORDS]) -> Inserted
+fn put(
+    words: &mut [i32],
+    target: usize,
+    g: Growing,
+    w: &[i32; ZONE_WORDS],
+) -> Result<Option<usize>, Overflow>
     requires { Stands words.old target g }
     ensures { InsertAs (zone_at w.now 0) words.old target g.count words.new result }
 {
@@ -109,25 +103,33 @@ fn put(words: &mut [i32], target: usize, g: Growing, w: &[i32; ZONE_WORDS]) -> I
 }
 
 // The list after a put of the zone of six words w.
-fn after_put(g: Growing, answer: Inserted, w: &[i32; ZONE_WORDS]) -> Grown
+fn after_put(
+    g: Growing,
+    answer: Result<Option<usize>, Overflow>,
+    w: &[i32; ZONE_WORDS],
+) -> Result<Growing, Overflow>
     ensures { GrownBy g (zone_at w.now 0) answer result }
 {
-    match answer {
-        Inserted::Away => Grown::Grew(g),
-        Inserted::Placed(n) => Grown::Grew(Growing {
-            count: n,
-            changed: 1,
-            pairs: g.pairs,
-            latest: with_zone(g.latest, w),
-        }),
-        Inserted::Overflow => Grown::Overflow,
-    }
+    let Some(count) = answer? else {
+        return Ok(g);
+    };
+    Ok(Growing {
+        count,
+        changed: 1,
+        latest: with_zone(g.latest, w),
+        ..g
+    })
 }
 
 // Puts one zone more, that of six words w, and marks whether it was placed. No pair is composed.
-pub fn grow_words(words: &mut [i32], target: usize, g: Growing, w: &[i32; ZONE_WORDS]) -> Grown
+pub fn grow_words(
+    words: &mut [i32],
+    target: usize,
+    g: Growing,
+    w: &[i32; ZONE_WORDS],
+) -> Result<Growing, Overflow>
     requires { Stands words.old target g }
-    ensures grown { GrowsAs (zone (zone_at w.now 0) ∷ []) NoPair g words.old target words.new result }
+    ensures grown { GrowsAs (Some (zone_at w.now 0) ∷ []) NoPair g words.old target words.new result }
     ensures kept { Kept target slot_words words.old words.new }
 {
     let answer = put(words, target, g, w);
@@ -135,9 +137,14 @@ pub fn grow_words(words: &mut [i32], target: usize, g: Growing, w: &[i32; ZONE_W
 }
 
 // The same of a zone that lies inside no listed zone and around none: the list is not looked through.
-pub fn grow_apart(words: &mut [i32], target: usize, g: Growing, w: &[i32; ZONE_WORDS]) -> Grown
+pub fn grow_apart(
+    words: &mut [i32],
+    target: usize,
+    g: Growing,
+    w: &[i32; ZONE_WORDS],
+) -> Result<Growing, Overflow>
     requires { (Stands words.old target g) × (Apart (zone_at w.now 0) (list_at words.old target g.count)) }
-    ensures grown { GrowsAs (zone (zone_at w.now 0) ∷ []) NoPair g words.old target words.new result }
+    ensures grown { GrowsAs (Some (zone_at w.now 0) ∷ []) NoPair g words.old target words.new result }
     ensures kept { Kept target slot_words words.old words.new }
 {
     let answer = list::insert_apart(words, target, g.count, w);
@@ -145,9 +152,9 @@ pub fn grow_apart(words: &mut [i32], target: usize, g: Growing, w: &[i32; ZONE_W
 }
 
 // The same of a zone by itself, for which how late it starts is not asked.
-pub fn grow(words: &mut [i32], target: usize, g: Growing, z: Zone) -> Grown
+pub fn grow(words: &mut [i32], target: usize, g: Growing, z: Zone) -> Result<Growing, Overflow>
     requires { (Stands words.old target g) × (Ranged 1_000_000 z) }
-    ensures grown { GrowsAs (zone z ∷ []) NoPair g words.old target words.new result }
+    ensures grown { GrowsAs (Some z ∷ []) NoPair g words.old target words.new result }
     ensures kept { Kept target slot_words words.old words.new }
 {
     let mut w = [0i32; ZONE_WORDS];

@@ -1,5 +1,6 @@
 -- What puts do to a list: what it covers and what lies in it afterwards, and what they keep. Everything follows from the puts as they went,
 -- `Puts`; no lemma here looks inside a zone.
+use Rattle.std.specs.Prelude.{Option, Some, None}
 use mathlib.Core.Path.{◌≡◌, refl, sym, ap, subst}
 use mathlib.Core.Logic.{◌↔◌, ◌⊎◌, inl, inr, ⊎_map, ⊎_elim}
 use mathlib.Core.Bool.{Bool, true, false, cond, ◌||◌}
@@ -18,8 +19,6 @@ use lib.Dec.{T, ltb}
 use lib.ListN.{length, length-append}
 use Rattle.limit.specs.Time.{Time}
 use Rattle.zone.specs.declared.Zone.{Zone}
-use Rattle.zone.specs.declared.MaybeZone.{MaybeZone}
-use Rattle.zone.specs.declared.MaybeZone.TheVariants.{Zone as zone, Empty as empty}
 use Rattle.zone.specs.Zone.{contains, In, InMaybe, Proper}
 use Rattle.zone.proofs.Laws.{contains_refl, contains_trans, contains_in}
 use Rattle.list.specs.Insert.{capacity, covered, outside, Put, away, placed, overflow, insert, listed, after, insert_each}
@@ -147,31 +146,31 @@ insert_cases z L P f g h = go (covered z L) (ltb (length (outside z L)) capacity
 -- ---- puts one after the other
 
 -- the puts of `insert_each` that come from L to a list M, each as it went: passed over, turned away, placed
-pub data Puts : List MaybeZone → List Zone → List Zone → Type 0 where
+pub data Puts : List (Option Zone) → List Zone → List Zone → Type 0 where
   done : {L : List Zone} → Puts [] L L
-  pass : {rest : List MaybeZone} {L M : List Zone} → Puts rest L M → Puts (empty ∷ rest) L M
-  stay : {z : Zone} {rest : List MaybeZone} {L M : List Zone} → Covered z L → Puts rest L M → Puts (zone z ∷ rest) L M
-  place : {z : Zone} {rest : List MaybeZone} {L M : List Zone} → ¬ Covered z L → length (outside z L) < capacity → Puts rest (with_last z L) M → Puts (zone z ∷ rest) L M
+  pass : {rest : List (Option Zone)} {L M : List Zone} → Puts rest L M → Puts (None ∷ rest) L M
+  stay : {z : Zone} {rest : List (Option Zone)} {L M : List Zone} → Covered z L → Puts rest L M → Puts (Some z ∷ rest) L M
+  place : {z : Zone} {rest : List (Option Zone)} {L M : List Zone} → ¬ Covered z L → length (outside z L) < capacity → Puts rest (with_last z L) M → Puts (Some z ∷ rest) L M
 
-pub puts : (rs : List MaybeZone) (L : List Zone) {M : List Zone} → insert_each rs L ≡ listed M → Puts rs L M
+pub puts : (rs : List (Option Zone)) (L : List Zone) {M : List Zone} → insert_each rs L ≡ listed M → Puts rs L M
 unfolding insert_each
 puts [] L {M} e = let q : L ≡ M = cc in subst (Puts [] L) q done
-puts (empty ∷ rest) L e = pass (puts rest L e)
-puts (zone z ∷ rest) L {M} e =
-    insert_cases z L (λ p. ((K : List Zone) → insert_each rest K ≡ listed M → Puts rest K M) → after p L (insert_each rest) ≡ listed M → Puts (zone z ∷ rest) L M)
+puts (None ∷ rest) L e = pass (puts rest L e)
+puts (Some z ∷ rest) L {M} e =
+    insert_cases z L (λ p. ((K : List Zone) → insert_each rest K ≡ listed M → Puts rest K M) → after p L (insert_each rest) ≡ listed M → Puts (Some z ∷ rest) L M)
     (λ c below q. stay c (below L q)) (λ n h below q. place n h (below (with_last z L) q)) (λ n h below q. clash (cc))
     (λ K q. puts rest K q) e
 
 -- every listed zone was listed before or was put
-pub puts_mem : {rs : List MaybeZone} {L M : List Zone} → Puts rs L M → {y : Zone} → Memᴰ y M → Memᴰ y L ⊎ Memᴰ (zone y) rs
+pub puts_mem : {rs : List (Option Zone)} {L M : List Zone} → Puts rs L M → {y : Zone} → Memᴰ y M → Memᴰ y L ⊎ Memᴰ (Some y) rs
 puts_mem done m = inl m
 puts_mem (pass p) m = ⊎_map (λ n. n) tail (puts_mem p m)
 puts_mem (stay c p) m = ⊎_map (λ n. n) tail (puts_mem p m)
 puts_mem (place {z} {rest} {L} c h p) {y} m = ⊎_elim (λ n. go (append_cases (outside z L) n)) (λ n. inr (tail n)) (puts_mem p m)
   where
-    go : Memᴰ y (outside z L) ⊎ Memᴰ y (z ∷ []) → Memᴰ y L ⊎ Memᴰ (zone y) (zone z ∷ rest)
+    go : Memᴰ y (outside z L) ⊎ Memᴰ y (z ∷ []) → Memᴰ y L ⊎ Memᴰ (Some y) (Some z ∷ rest)
     go (inl n) = inl (outside_mem z L n).0
-    go (inr n) = inr (head (ap zone (eq_of_singleton n)))
+    go (inr n) = inr (head (ap Some (eq_of_singleton n)))
 
 last_new : (z : Zone) (L : List Zone) → Covered z (with_last z L)
 last_new z L = (z, append_right (outside z L) (head refl), contains_refl z)
@@ -184,14 +183,14 @@ last_keeps z x {L} c = go (mem_outside z c.1)
     go (inr m) = (c.0, append_left (z ∷ []) m, c.2)
 
 -- a put never loses coverage
-pub puts_keep : {rs : List MaybeZone} {L M : List Zone} → Puts rs L M → (x : Zone) → Covered x L → Covered x M
+pub puts_keep : {rs : List (Option Zone)} {L M : List Zone} → Puts rs L M → (x : Zone) → Covered x L → Covered x M
 puts_keep done x c = c
 puts_keep (pass p) x c = puts_keep p x c
 puts_keep (stay _ p) x c = puts_keep p x c
 puts_keep (place {z} _ _ p) x c = puts_keep p x (last_keeps z x c)
 
 -- every zone that was put is covered
-pub puts_new : {rs : List MaybeZone} {L M : List Zone} → Puts rs L M → (x : Zone) → Memᴰ (zone x) rs → Covered x M
+pub puts_new : {rs : List (Option Zone)} {L M : List Zone} → Puts rs L M → (x : Zone) → Memᴰ (Some x) rs → Covered x M
 puts_new done x m = absurd (not-nil m)
 puts_new (pass p) x (head e) = clash (cc)
 puts_new (pass p) x (tail m) = puts_new p x m
@@ -201,11 +200,11 @@ puts_new (place {z} {L = L} _ _ p) x (head e) = puts_keep p x (let q : z ≡ x =
 puts_new (place _ _ p) x (tail m) = puts_new p x m
 
 -- tight zones inside from..to stay so ..
-pub puts_proper : {from to : ℕ} {rs : List MaybeZone} {L M : List Zone} → Puts rs L M → AllProper from to L → ((z : Zone) → Memᴰ (zone z) rs → Proper from to z) → AllProper from to M
+pub puts_proper : {from to : ℕ} {rs : List (Option Zone)} {L M : List Zone} → Puts rs L M → AllProper from to L → ((z : Zone) → Memᴰ (Some z) rs → Proper from to z) → AllProper from to M
 puts_proper p h k z m = ⊎_elim (h z) (k z) (puts_mem p m)
 
 -- .. none lies inside another ..
-pub puts_antichain : {rs : List MaybeZone} {L M : List Zone} → Puts rs L M → Antichain L → Antichain M
+pub puts_antichain : {rs : List (Option Zone)} {L M : List Zone} → Puts rs L M → Antichain L → Antichain M
 puts_antichain done h = h
 puts_antichain (pass p) h = puts_antichain p h
 puts_antichain (stay _ p) h = puts_antichain p h
@@ -214,14 +213,14 @@ puts_antichain (place {z} {L = L} n _ p) h =
     (last_antichain z (outside z L) (outside_antichain z L h) (λ y m. let k = outside_mem z L m in (λ i. n (y, k.0, i), k.1)))
 
 -- .. and there are no more than 128
-pub puts_length : {rs : List MaybeZone} {L M : List Zone} → Puts rs L M → length L ≤ capacity → length M ≤ capacity
+pub puts_length : {rs : List (Option Zone)} {L M : List Zone} → Puts rs L M → length L ≤ capacity → length M ≤ capacity
 puts_length done h = h
 puts_length (pass p) h = puts_length p h
 puts_length (stay _ p) h = puts_length p h
 puts_length (place {z} {L = L} _ k p) h = puts_length p (omega (arith, length-append (outside z L) (z ∷ [])))
 
 -- puts that change the list put a zone that it did not cover
-pub puts_fresh : {rs : List MaybeZone} {L M : List Zone} → Puts rs L M → ¬ (M ≡ L) → (x : Zone) × Memᴰ (zone x) rs × (¬ Covered x L)
+pub puts_fresh : {rs : List (Option Zone)} {L M : List Zone} → Puts rs L M → ¬ (M ≡ L) → (x : Zone) × Memᴰ (Some x) rs × (¬ Covered x L)
 puts_fresh done n = absurd (n refl)
 puts_fresh (pass p) n = let f = puts_fresh p n in (f.0, tail f.1, f.2)
 puts_fresh (stay _ p) n = let f = puts_fresh p n in (f.0, tail f.1, f.2)
@@ -234,32 +233,32 @@ pub covered_lies : {v : Zone} {L : List Zone} {x y : Time} → Covered v L → I
 covered_lies {v} {x = x} {y = y} c i = record { in_zone = c.0; among = c.1; member = contains_in c.0 v c.2 x y i }
 
 -- the stretch lies in one of the zones to be put
-abbrev pub Offered : List MaybeZone → Time → Time → Type 0
-Offered rs x y = (r : MaybeZone) × Memᴰ r rs × InMaybe r x y
+abbrev pub Offered : List (Option Zone) → Time → Time → Type 0
+Offered rs x y = (r : Option Zone) × Memᴰ r rs × InMaybe r x y
 
 -- nothing is lost and nothing comes in: the stretches of L and those of the zones put
-pub puts_lies : {rs : List MaybeZone} {L M : List Zone} → Puts rs L M → (x y : Time) → Lies M x y ↔ (Lies L x y ⊎ Offered rs x y)
+pub puts_lies : {rs : List (Option Zone)} {L M : List Zone} → Puts rs L M → (x y : Time) → Lies M x y ↔ (Lies L x y ⊎ Offered rs x y)
 puts_lies {rs} {L} {M} p x y = (
-  λ l. ⊎_map (λ m. record { in_zone = l.in_zone; among = m; member = l.member }) (λ m. (zone l.in_zone, m, l.member)) (puts_mem p l.among),
+  λ l. ⊎_map (λ m. record { in_zone = l.in_zone; among = m; member = l.member }) (λ m. (Some l.in_zone, m, l.member)) (puts_mem p l.among),
   ⊎_elim kept (λ o. new o.0 o.1 o.2),
 )
   where
     kept : Lies L x y → Lies M x y
     kept l = covered_lies (puts_keep p l.in_zone (l.in_zone, l.among, contains_refl l.in_zone)) l.member
 
-    new : (r : MaybeZone) → Memᴰ r rs → InMaybe r x y → Lies M x y
-    new (zone v) m i = covered_lies (puts_new p v m) i
-    new empty m i = absurd i
+    new : (r : Option Zone) → Memᴰ r rs → InMaybe r x y → Lies M x y
+    new (Some v) m i = covered_lies (puts_new p v m) i
+    new None m i = absurd i
 
 -- ---- a put by itself
 
 -- a put that is placed is a list of puts
-pub placed_each : (z : Zone) (L : List Zone) {M : List Zone} → insert z L ≡ placed M → insert_each (zone z ∷ []) L ≡ listed M
+pub placed_each : (z : Zone) (L : List Zone) {M : List Zone} → insert z L ≡ placed M → insert_each (Some z ∷ []) L ≡ listed M
 unfolding insert_each
 placed_each z L e = ap (λ (p : Put). after p L listed) e
 
-pub placed_puts : (z : Zone) (L : List Zone) {M : List Zone} → insert z L ≡ placed M → Puts (zone z ∷ []) L M
-placed_puts z L e = puts (zone z ∷ []) L (placed_each z L e)
+pub placed_puts : (z : Zone) (L : List Zone) {M : List Zone} → insert z L ≡ placed M → Puts (Some z ∷ []) L M
+placed_puts z L e = puts (Some z ∷ []) L (placed_each z L e)
 
 -- a put is placed only where the zone is not covered ..
 pub placed_new : (z : Zone) (L : List Zone) {M : List Zone} → insert z L ≡ placed M → ¬ Covered z L

@@ -2,13 +2,12 @@
 use mathlib.Core.Path.{◌≡◌, refl, sym, ap, subst, ◌∙◌}
 use mathlib.Core.Bool.{Bool, true, false}
 use mathlib.Core.Logic.{◌⊎◌, inl, inr, ⊎_elim}
-use mathlib.Core.List.{List, [], ◌∷◌, ◌++◌, append-nil}
+use mathlib.Core.List.{List, [], ◌∷◌, ◌++◌}
 use Prim.Native.Nat.{ℕ, zero, suc, ◌+◌, ◌-◌, ◌*◌, ◌≤◌, ◌<◌}
 use native.Mathlib.Omega.{arith}
 use lib.Dec.{ltb}
-use lib.IntN.{ℤ, pos}
-use lib.ListN.{length, set, take, drop, length-set, length-append, length-drop, drop_of_length-le, get_or-append}
-use lib.Seq.{get_or-set_same, get_or-set_other, length-take-le, take_all, get_or-take, get_or-drop, get_or-append-add}
+use lib.IntN.{ℤ}
+use lib.ListN.{length}
 use borrow.Author.Tests.{ltb-true, ltb-false}
 use Rattle.zone.specs.declared.Zone.{Zone}
 use Rattle.words.specs.Words.{word, zone_at, codes, overwrite}
@@ -93,10 +92,7 @@ list_at_snoc ws base (suc n) =
     let e : base + 6 + n * 6 ≡ base + suc n * 6 = omega arith in
     ap (λ (l : List Zone). zone_at ws base ∷ l) (list_at_snoc ws (base + 6) n ∙ ap (λ (a : ℕ). list_at ws (base + 6) n ++ (zone_at ws a ∷ [])) e)
 
--- ---- copying word by word
-
-pub copied_none : (from to : ℕ) (ws : List ℤ) → Copied from to 0 ws ws
-copied_none from to ws = record { moved = λ k h. absurd (omega arith); kept = kept_refl to 0 ws }
+-- ---- copying
 
 -- a list is its first k zones and the rest
 pub list_at_split : (ws : List ℤ) (base k m : ℕ) → list_at ws base (k + m) ≡ list_at ws base k ++ list_at ws (base + k * 6) m
@@ -136,70 +132,6 @@ copied_on {from} {to} {k} {m} {n} {ws} {us} {vs} c d h l =
 -- words that stand there already
 pub copied_there : {from to : ℕ} (n : ℕ) (ws : List ℤ) → from ≡ to → Copied from to n ws ws
 copied_there {from} n ws e = subst (λ (at : ℕ). Copied from at n ws ws) e (record { moved = λ k h. refl; kept = kept_refl from n ws })
-
--- a word more, copied to a place before it: it has not been written yet
-pub copied_more : {from to k : ℕ} {ws vs : List ℤ} → Copied from to k ws vs → to ≤ from → to + k < length vs → Copied from to (k + 1) ws (set vs (to + k) (word vs (from + k)))
-copied_more {from} {to} {k} {ws} {vs} c h fits =
-    record {
-      moved = λ j g. ⊎_elim (λ b. other (to + j) (omega arith) ∙ c.moved j b) (λ b. here j (omega arith)) (below_or_not j k);
-      kept =
-          record {
-            same_length = length-set vs (to + k) (word vs (from + k)) ∙ c.kept.same_length;
-            below = λ j g. other j (omega arith) ∙ c.kept.below j g;
-            above = λ j g. other j (omega arith) ∙ c.kept.above j (omega arith);
-          };
-    }
-  where
-    other : (j : ℕ) → (j ≡ to + k → ⊥) → word (set vs (to + k) (word vs (from + k))) j ≡ word vs j
-    other j e = get_or-set_other vs (to + k) j (word vs (from + k)) (pos 0) e
-
-    here : (j : ℕ) → j ≡ k → word (set vs (to + k) (word vs (from + k))) (to + j) ≡ word ws (from + j)
-    here j e =
-        subst (λ (m : ℕ). word (set vs (to + k) (word vs (from + k))) (to + m) ≡ word ws (from + m)) (sym e)
-        (get_or-set_same vs (to + k) (word vs (from + k)) (pos 0) fits ∙ c.kept.above _ (omega arith))
-
--- ---- the words from `at` on, lent as a part
-
-module _ (ws : List ℤ) (at : ℕ) (h : at ≤ length ws) where
-  pub part_length : length (take (length ws - at) (drop at ws)) ≡ length ws - at
-  part_length = length-take-le (length ws - at) (drop at ws) (omega (arith, length-drop at ws))
-
-  part_word : (j : ℕ) → word (take (length ws - at) (drop at ws)) j ≡ word ws (at + j)
-  part_word j = ap (λ (us : List ℤ). word us j) (take_all (length ws - at) (drop at ws) (omega (arith, length-drop at ws))) ∙ get_or-drop at ws j (pos 0)
-
-  -- all words, with ys in the place of the part
-  abbrev Back : List ℤ → List ℤ
-  Back ys = take at ws ++ (ys ++ drop (length ws - at) (drop at ws))
-
-  back_is : (ys : List ℤ) → Back ys ≡ take at ws ++ ys
-  back_is ys = ap (λ (us : List ℤ). take at ws ++ (ys ++ us)) (drop_of_length-le (drop at ws) {i = length ws - at} (omega (arith, length-drop at ws))) ∙ ap (λ (us : List ℤ). take at ws ++ us) (append-nil ys)
-
-  front : (ys : List ℤ) (k : ℕ) → k < at → word (take at ws ++ ys) k ≡ word ws k
-  front ys k l = get_or-append (take at ws) ys (pos 0) k (omega (arith, length-take-le at ws h)) ∙ get_or-take at ws k (pos 0) l
-
-  behind : (ys : List ℤ) (j : ℕ) → word (take at ws ++ ys) (at + j) ≡ word ys j
-  behind ys j =
-      let e : at + j ≡ length (take at ws) + j = omega (arith, length-take-le at ws h) in
-      ap (word (take at ws ++ ys)) e ∙ get_or-append-add (take at ws) ys j (pos 0)
-
-  -- the gap that was closed in the part is closed in all of them
-  pub gap_closed : {n : ℕ} {ys : List ℤ} → Copied 6 0 n (take (length ws - at) (drop at ws)) ys → Copied (at + 6) at n ws (Back ys)
-  gap_closed {n} {ys} c =
-      subst (Copied (at + 6) at n ws) (sym (back_is ys))
-      (record {
-        moved = λ k l.
-            let e : k ≡ 0 + k = omega arith in
-            let f : at + (6 + k) ≡ at + 6 + k = omega arith in
-            behind ys k ∙ ap (word ys) e ∙ c.moved k l ∙ part_word (6 + k) ∙ ap (word ws) f;
-        kept =
-            record {
-              same_length = length-append (take at ws) ys ∙ omega (arith, length-take-le at ws h, c.kept.same_length, part_length);
-              below = front ys;
-              above = λ k l.
-                  let e : k ≡ at + (k - at) = omega arith in
-                  ap (word (take at ws ++ ys)) e ∙ behind ys (k - at) ∙ c.kept.above (k - at) (omega arith) ∙ part_word (k - at) ∙ ap (word ws) (sym e);
-            };
-      })
 
 -- ---- a zone written behind the list
 

@@ -1,5 +1,6 @@
 -- The theorems on lists of zones: the page that the crates above cite. x, y and t are times num / den of any denominators; zones are tight
 -- and inside ticks from..to where a theorem says `Proper` or `AllProper`.
+use Rattle.std.specs.Prelude.{Option, Some}
 use mathlib.Core.Path.{◌≡◌, refl, sym, subst}
 use mathlib.Core.Logic.Iff
 use mathlib.Core.Logic.{◌↔◌, ◌⊎◌, inr, ⊎_map, ⊎_elim}
@@ -13,8 +14,6 @@ use lib.Dec.{T}
 use lib.ListN.{length, length-append}
 use Rattle.limit.specs.Time.{Time}
 use Rattle.zone.specs.declared.Zone.{Zone}
-use Rattle.zone.specs.declared.MaybeZone.{MaybeZone}
-use Rattle.zone.specs.declared.MaybeZone.TheVariants.{Zone as zone}
 use Rattle.zone.specs.Zone.{contains, In, Proper}
 use Rattle.list.specs.Insert.{capacity, covered, outside, away, placed, insert, listed, insert_each}
 use Rattle.list.specs.Members.{Lies, AllProper, Covered}
@@ -38,16 +37,16 @@ pub away_lies : (z : Zone) (L : List Zone) → insert z L ≡ away → (x y : Ti
 away_lies z L e x y i = covered_lies (away_covered z L e) i
 
 -- a list of one
-pub one_proper : {from to : ℕ} {z : Zone} → Proper from to z → (v : Zone) → Memᴰ (zone v) (zone z ∷ []) → Proper from to v
+pub one_proper : {from to : ℕ} {z : Zone} → Proper from to z → (v : Zone) → Memᴰ (Some v) (Some z ∷ []) → Proper from to v
 one_proper {from} {to} {z} h v m = subst (Proper from to) (sym (eq_of_singleton (mem_zones (z ∷ []) m))) h
 
 -- M is what `insert_each` makes of L by putting rs
-module _ (rs : List MaybeZone) (L : List Zone) {M : List Zone} (e : insert_each rs L ≡ listed M) where
+module _ (rs : List (Option Zone)) (L : List Zone) {M : List Zone} (e : insert_each rs L ≡ listed M) where
   went : Puts rs L M
   went = puts rs L e
 
   -- M covers exactly what L and the zones put cover
-  pub each_covers : (x : Zone) → Covered x M ↔ (Covered x L ⊎ ((z : Zone) × Memᴰ (zone z) rs × T (contains z x)))
+  pub each_covers : (x : Zone) → Covered x M ↔ (Covered x L ⊎ ((z : Zone) × Memᴰ (Some z) rs × T (contains z x)))
   each_covers x = (
     λ c. ⊎_map (λ m. (c.0, m, c.2)) (λ m. (c.0, m, c.2)) (coverage.puts_mem went c.1),
     ⊎_elim (coverage.puts_keep went x) (λ p. covered_within x p.0 p.2 (coverage.puts_new went p.0 p.1)),
@@ -58,7 +57,7 @@ module _ (rs : List MaybeZone) (L : List Zone) {M : List Zone} (e : insert_each 
   each_lies = coverage.puts_lies went
 
   -- tight zones inside from..to stay so ..
-  pub each_proper : {from to : ℕ} → AllProper from to L → ((z : Zone) → Memᴰ (zone z) rs → Proper from to z) → AllProper from to M
+  pub each_proper : {from to : ℕ} → AllProper from to L → ((z : Zone) → Memᴰ (Some z) rs → Proper from to z) → AllProper from to M
   each_proper = coverage.puts_proper went
 
   -- .. none lies inside another ..
@@ -71,7 +70,7 @@ module _ (rs : List MaybeZone) (L : List Zone) {M : List Zone} (e : insert_each 
 
 -- M is what one put leaves that was not turned away
 module _ (z : Zone) (L : List Zone) {M : List Zone} (e : insert z L ≡ placed M) where
-  alone : insert_each (zone z ∷ []) L ≡ listed M
+  alone : insert_each (Some z ∷ []) L ≡ listed M
   alone = coverage.placed_each z L e
 
   -- the zone was not covered
@@ -80,22 +79,22 @@ module _ (z : Zone) (L : List Zone) {M : List Zone} (e : insert z L ≡ placed M
 
   -- M covers exactly what L and z cover
   pub placed_covers : (x : Zone) → Covered x M ↔ (Covered x L ⊎ T (contains z x))
-  placed_covers x = Iff.trans (each_covers (zone z ∷ []) L alone x) (
+  placed_covers x = Iff.trans (each_covers (Some z ∷ []) L alone x) (
     ⊎_map (λ c. c) (λ p. subst (λ (v : Zone). T (contains v x)) (eq_of_singleton (mem_zones (z ∷ []) p.1)) p.2),
     ⊎_map (λ c. c) (λ i. (z, head refl, i)),
   )
 
   -- in M lie exactly the stretches of L and of z
   pub placed_lies : (x y : Time) → Lies M x y ↔ (Lies L x y ⊎ In z x y)
-  placed_lies x y = Iff.trans (each_lies (zone z ∷ []) L alone x y) (⊎_map (λ l. l) (offered_one z x y).0, ⊎_map (λ l. l) (offered_one z x y).1)
+  placed_lies x y = Iff.trans (each_lies (Some z ∷ []) L alone x y) (⊎_map (λ l. l) (offered_one z x y).0, ⊎_map (λ l. l) (offered_one z x y).1)
 
   -- tight zones inside from..to stay so ..
   pub placed_proper : {from to : ℕ} → AllProper from to L → Proper from to z → AllProper from to M
-  placed_proper h k = each_proper (zone z ∷ []) L alone h (one_proper k)
+  placed_proper h k = each_proper (Some z ∷ []) L alone h (one_proper k)
 
   -- .. none lies inside another ..
   pub placed_antichain : Antichain L → Antichain M
-  placed_antichain = each_antichain (zone z ∷ []) L alone
+  placed_antichain = each_antichain (Some z ∷ []) L alone
 
   -- .. and there are no more than 128, whatever the length of L
   pub placed_length : length M ≤ capacity
@@ -112,17 +111,17 @@ pub record WellFormed (from to : ℕ) (L : List Zone) : Type 0 where
   pub short : length L ≤ capacity
 
 -- L is built by putting rs into an empty list: the stretches of the zones put, and no others
-module _ (rs : List MaybeZone) {L : List Zone} (e : insert_each rs [] ≡ listed L) where
+module _ (rs : List (Option Zone)) {L : List Zone} (e : insert_each rs [] ≡ listed L) where
   pub built_lies : (x y : Time) → Lies L x y ↔ Offered rs x y
   built_lies x y = Iff.trans (each_lies rs [] e x y) (⊎_elim (λ l. absurd (nothing_lies l)) (λ o. o), inr)
 
-  pub built_well : {from to : ℕ} → ((z : Zone) → Memᴰ (zone z) rs → Proper from to z) → WellFormed from to L
+  pub built_well : {from to : ℕ} → ((z : Zone) → Memᴰ (Some z) rs → Proper from to z) → WellFormed from to L
   built_well h = record { proper = each_proper rs [] e (λ z m. absurd (not-nil m)) h; antichain = each_antichain rs [] e tt; short = each_length rs [] e (omega arith) }
 
 -- L is built by putting the zones of K into an empty list: their stretches, and no others
-module _ (K : List Zone) {L : List Zone} (e : insert_each (map zone K) [] ≡ listed L) where
+module _ (K : List Zone) {L : List Zone} (e : insert_each (map Some K) [] ≡ listed L) where
   pub zones_lies : (x y : Time) → Lies L x y ↔ Lies K x y
-  zones_lies x y = Iff.trans (built_lies (map zone K) e x y) (offered_zones K x y)
+  zones_lies x y = Iff.trans (built_lies (map Some K) e x y) (offered_zones K x y)
 
   pub zones_well : {from to : ℕ} → AllProper from to K → WellFormed from to L
-  zones_well h = built_well (map zone K) e (λ z m. h z (mem_zones K m))
+  zones_well h = built_well (map Some K) e (λ z m. h z (mem_zones K m))

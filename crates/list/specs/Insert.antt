@@ -1,8 +1,6 @@
 -- Putting a zone into a list. No list has more than 128 zones.
-use Rattle.std.specs.Prelude.{Bool, false, cond, ◌||◌, List, [], ◌∷◌, ◌++◌, ℕ, ltb, length}
+use Rattle.std.specs.Prelude.{Bool, false, cond, ◌||◌, List, [], ◌∷◌, ◌++◌, ℕ, ltb, length, Option, Some, None}
 use Rattle.zone.specs.declared.Zone.{Zone}
-use Rattle.zone.specs.declared.MaybeZone.{MaybeZone}
-use Rattle.zone.specs.declared.MaybeZone.TheVariants.{Zone as zone, Empty as empty}
 use Rattle.zone.specs.Zone.{contains}
 
 -- the zones that a list has at most
@@ -41,10 +39,10 @@ after (placed M) L next = next M
 after overflow L next = overflow
 
 -- zones put one after the other, an empty answer being passed over
-unfoldable pub insert_each : List MaybeZone → List Zone → Built
+unfoldable pub insert_each : List (Option Zone) → List Zone → Built
 insert_each [] L = listed L
-insert_each (empty ∷ rest) L = insert_each rest L
-insert_each (zone z ∷ rest) L = after (insert z L) L (λ M. insert_each rest M)
+insert_each (None ∷ rest) L = insert_each rest L
+insert_each (Some z ∷ rest) L = after (insert z L) L (λ M. insert_each rest M)
 
 -- go on with the list that was built, if there is one
 abbrev pub then : Built → (List Zone → Built) → Built

@@ -1,11 +1,10 @@
 -- Lists of zones in the words of a buffer. A slot has room for 128 zones of six words.
-use Rattle.std.specs.Prelude.{◌≡◌, ◌⊎◌, List, [], ◌∷◌, ℕ, zero, suc, ◌+◌, ◌*◌, ◌≤◌, ◌<◌, ℤ, length}
+use Rattle.std.specs.Prelude.{◌≡◌, ◌⊎◌, List, [], ◌∷◌, ℕ, zero, suc, ◌+◌, ◌*◌, ◌≤◌, ◌<◌, ℤ, length, Option, Some, None, Result, Ok, Err}
 use Rattle.zone.specs.declared.Zone.{Zone}
 use Rattle.words.specs.Words.{zone_words, word, zone_at}
 use Rattle.list.specs.Insert.{capacity, away, placed, overflow, insert}
 use Rattle.list.specs.Members.{AllProper}
-use Rattle.list.specs.declared.Inserted.{Inserted}
-use Rattle.list.specs.declared.Inserted.TheVariants.{Away, Placed, Overflow}
+use Rattle.list.specs.declared.Overflow.{Overflow}
 
 -- the words of a slot
 abbrev pub slot_words : ℕ
@@ -71,7 +70,7 @@ pub record Placement (z : Zone) (ws : List ℤ) (base n : ℕ) (vs : List ℤ) (
   pub kept : Kept base slot_words ws vs
 
 -- .. a zone that is turned away, and one that would be the 129th, leave every word as it was
-abbrev pub InsertAs : Zone → List ℤ → ℕ → ℕ → List ℤ → Inserted → Type 0
-InsertAs z ws base n vs Away = (insert z (list_at ws base n) ≡ away) × (vs ≡ ws)
-InsertAs z ws base n vs (Placed m) = Placement z ws base n vs m
-InsertAs z ws base n vs Overflow = (insert z (list_at ws base n) ≡ overflow) × (vs ≡ ws)
+abbrev pub InsertAs : Zone → List ℤ → ℕ → ℕ → List ℤ → Result (Option ℕ) Overflow → Type 0
+InsertAs z ws base n vs (Ok None) = (insert z (list_at ws base n) ≡ away) × (vs ≡ ws)
+InsertAs z ws base n vs (Ok (Some m)) = Placement z ws base n vs m
+InsertAs z ws base n vs (Err e) = (insert z (list_at ws base n) ≡ overflow) × (vs ≡ ws)

@@ -1,5 +1,5 @@
 -- What the private functions answer. No public contract cites it.
-use Rattle.std.specs.Prelude.{◌≡◌, Bool, true, false, List, ◌++◌, ℕ, ◌+◌, ◌-◌, ◌*◌, ◌≤◌, ◌<◌, ℤ}
+use Rattle.std.specs.Prelude.{◌≡◌, Bool, true, false, List, ◌++◌, ℕ, ◌+◌, ◌-◌, ◌*◌, ◌≤◌, ◌<◌, ℤ, Result, Ok, Err}
 use Rattle.zone.specs.declared.Zone.{Zone}
 use Rattle.words.specs.Words.{zone_words, zone_at, codes, overwrite}
 use Rattle.zone.specs.Zone.{contains}
@@ -7,8 +7,7 @@ use Rattle.list.specs.Insert.{capacity, covered, outside}
 use Rattle.list.specs.Slots.{slot_words, list_at, Kept, Copied}
 use Rattle.list.specs.declared.Look.{Look}
 use Rattle.list.specs.declared.Look.TheVariants.{Held, Apart, One, Several}
-use Rattle.list.specs.declared.Inserted.{Inserted}
-use Rattle.list.specs.declared.Inserted.TheVariants.{Away, Placed, Overflow}
+use Rattle.list.specs.declared.Overflow.{Overflow}
 
 -- a zone that lies inside the new one is left out; any other is copied from `from` behind the zones kept so far
 abbrev pub KeepsAs : Bool → ℕ → ℕ → ℕ → List ℤ → List ℤ → ℕ → Type 0
@@ -52,7 +51,6 @@ abbrev pub AlsoAs : Look → ℕ → Look → Type 0
 AlsoAs seen i r = (z : Zone) (ws : List ℤ) (base : ℕ) → LookAs z ws base i seen → contains (zone_at ws (base + i * zone_words)) z ≡ false → contains z (zone_at ws (base + i * zone_words)) ≡ true → LookAs z ws base (i + 1) r
 
 -- z goes behind the first n zones, unless there are 128
-abbrev pub AppendAs : Zone → List ℤ → ℕ → ℕ → List ℤ → Inserted → Type 0
-AppendAs z ws base n vs Away = ⊥
-AppendAs z ws base n vs (Placed m) = (m ≡ n + 1) × (n < capacity) × (vs ≡ overwrite ws (base + n * zone_words) (codes z))
-AppendAs z ws base n vs Overflow = (capacity ≤ n) × (vs ≡ ws)
+abbrev pub AppendAs : Zone → List ℤ → ℕ → ℕ → List ℤ → Result ℕ Overflow → Type 0
+AppendAs z ws base n vs (Ok m) = (m ≡ n + 1) × (n < capacity) × (vs ≡ overwrite ws (base + n * zone_words) (codes z))
+AppendAs z ws base n vs (Err e) = (capacity ≤ n) × (vs ≡ ws)

@@ -20,13 +20,9 @@ pub const CAPACITY: usize = 128;
 
 pub const SLOT_WORDS: usize = CAPACITY * ZONE_WORDS;
 
-// What a put comes to: turned away, placed with the new count, or a list that would have 129 zones.
+// A put would leave a list of 129 zones.
 #[derive(Clone, Copy)]
-pub enum Inserted {
-    Away,
-    Placed(usize),
-    Overflow,
-}
+pub struct Overflow;
 
 // What a new zone meets in a list: a zone that holds it; else only zones apart from it; or one inside it, at this place;
 // or any number inside it, the first of them at this place, so that the rest are to be gone through.
@@ -38,17 +34,13 @@ enum Look {
     Several(usize),
 }
 
-// Moves the n words behind the first six of a part to its front. Both places stand in one part, so that it is a single move of
-// memory.
-fn close_gap(part: &mut [i32], n: usize)
-    requires { n + zone_words ≤ length part.old }
-    ensures { Copied zone_words 0 n part.old part.new }
+// Moves n words down to the six at `gap`, behind which they stand.
+fn close_gap(words: &mut [i32], gap: usize, n: usize)
+    requires { gap + zone_words + n ≤ length words.old }
+    ensures { Copied (gap + zone_words) gap n words.old words.new }
 {
-    let mut k = 0;
-    while k < n {
-        part[k] = part[k + ZONE_WORDS];
-        k += 1;
-    }
+    let from = gap + ZONE_WORDS;
+    words.copy_within(from..from + n, gap);
 }
 
 // Copies n zones to a place before them, or to one past their end. Most lists are short, and go zone by zone in fewer
@@ -57,10 +49,8 @@ pub fn copy_zones(words: &mut [i32], from: usize, to: usize, n: usize)
     requires { (from + n * zone_words ≤ length words.old) × (to + n * zone_words ≤ length words.old) × ((to ≤ from) ⊎ (from + n * zone_words ≤ to)) }
     ensures { Copied from to (n * zone_words) words.old words.new }
 {
-    let mut k = 0;
-    while k < n {
+    for k in 0..n {
         words::move_zone(words, from + k * ZONE_WORDS, to + k * ZONE_WORDS);
-        k += 1;
     }
 }
 
@@ -82,8 +72,7 @@ fn look_over(words: &[i32], base: usize, count: usize, w: &[i32; ZONE_WORDS]) ->
     ensures { LookAs (zone_at w.now 0) words.now base count result }
 {
     let mut seen = Look::Apart;
-    let mut i = 0;
-    while i < count {
+    for i in 0..count {
         match nesting::nested(w, 0, words, base + i * ZONE_WORDS) {
             Nesting::Inside => {
                 return Look::Held;
@@ -93,7 +82,6 @@ fn look_over(words: &[i32], base: usize, count: usize, w: &[i32; ZONE_WORDS]) ->
             }
             Nesting::Apart => {}
         }
-        i += 1;
     }
     seen
 }
@@ -133,53 +121,65 @@ fn remove_inside(
     ensures kept { Kept base slot_words words.old words.new }
 {
     let mut kept = clear;
-    let mut i = clear;
-    while i < count {
+    for i in clear..count {
         kept = keep_outside(words, base, i, kept, w);
-        i += 1;
     }
     kept
 }
 
-// Puts the zone of six words w behind the first n of a slot, where there is room.
-fn append(words: &mut [i32], base: usize, n: usize, w: &[i32; ZONE_WORDS]) -> Inserted
+// Puts the zone of six words w behind the first n of a slot, where there is room; answers how many there are then.
+fn append(
+    words: &mut [i32],
+    base: usize,
+    n: usize,
+    w: &[i32; ZONE_WORDS],
+) -> Result<usize, Overflow>
     requires { Slot words.old base n }
     ensures { AppendAs (zone_at w.now 0) words.old base n words.new result }
 {
     if CAPACITY <= n {
-        return Inserted::Overflow;
+        return Err(Overflow);
     }
     words::copy_zone(words, base + n * ZONE_WORDS, w, 0);
-    Inserted::Placed(n + 1)
+    Ok(n + 1)
 }
 
-// Puts the zone of six words w into the list of a slot. Where it would be the 129th, no zone gave way to it, and so no word
-// has been written.
-pub fn insert_words(words: &mut [i32], base: usize, count: usize, w: &[i32; ZONE_WORDS]) -> Inserted
+// Puts the zone of six words w into the list of a slot: answers how many zones it has then, or `None` where the zone is turned
+// away. Where it would be the 129th, no zone gave way to it, and so no word has been written.
+pub fn insert_words(
+    words: &mut [i32],
+    base: usize,
+    count: usize,
+    w: &[i32; ZONE_WORDS],
+) -> Result<Option<usize>, Overflow>
     requires { Slot words.old base count }
     ensures { InsertAs (zone_at w.now 0) words.old base count words.new result }
 {
-    match look_over(words, base, count, w) {
-        Look::Held => Inserted::Away,
-        Look::Apart => append(words, base, count, w),
+    let stay = match look_over(words, base, count, w) {
+        Look::Held => return Ok(None),
+        Look::Apart => count,
         Look::One(k) => {
-            let gap = base + k * ZONE_WORDS;
-            close_gap(&mut words[gap..], (count - k - 1) * ZONE_WORDS);
-            append(words, base, count - 1, w)
+            close_gap(words, base + k * ZONE_WORDS, (count - k - 1) * ZONE_WORDS);
+            count - 1
         }
-        Look::Several(k) => {
-            let kept = remove_inside(words, base, count, k, w);
-            append(words, base, kept, w)
-        }
-    }
+        Look::Several(k) => remove_inside(words, base, count, k, w),
+    };
+    let placed = append(words, base, stay, w)?;
+    Ok(Some(placed))
 }
 
 // Puts the zone of six words w, which lies inside no listed zone and around none: it goes last, and no zone gives way to it.
-pub fn insert_apart(words: &mut [i32], base: usize, count: usize, w: &[i32; ZONE_WORDS]) -> Inserted
+pub fn insert_apart(
+    words: &mut [i32],
+    base: usize,
+    count: usize,
+    w: &[i32; ZONE_WORDS],
+) -> Result<Option<usize>, Overflow>
     requires { (Slot words.old base count) × (Apart (zone_at w.now 0) (list_at words.old base count)) }
     ensures { InsertAs (zone_at w.now 0) words.old base count words.new result }
 {
-    append(words, base, count, w)
+    let placed = append(words, base, count, w)?;
+    Ok(Some(placed))
 }
 
 // Brings a list to its slot, where it stands in another.

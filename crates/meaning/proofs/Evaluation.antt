@@ -1,4 +1,5 @@
 -- An expression comes to one value, and to some value; its list is well formed.
+use Rattle.std.specs.Prelude.{Option, Some}
 use mathlib.Core.Path.{◌≡◌, refl, sym, subst, ◌∙◌, ap}
 use mathlib.Core.List.Memᴰ
 use mathlib.Core.List.Memᴰ.{eq_of_singleton}
@@ -6,8 +7,6 @@ use mathlib.Core.List.{List, [], ◌∷◌}
 use Prim.Native.Nat.{ℕ, ◌+◌, ◌≤◌, ◌<◌}
 use native.Mathlib.Omega.{arith}
 use Rattle.zone.specs.declared.Zone.{Zone}
-use Rattle.zone.specs.declared.MaybeZone.{MaybeZone}
-use Rattle.zone.specs.declared.MaybeZone.TheVariants.{Zone as zone}
 use Rattle.zone.specs.Zone.{Proper, run, diagonal}
 use Rattle.zone.proofs.Laws.{proper_run, proper_within, proper_diagonal}
 use Rattle.list.specs.Insert as puts
@@ -137,7 +136,7 @@ pub moments_parts : {P Q : ℕ → Type 0} {from to : ℕ} {L : List Zone} {t : 
     → (ss : List ℕ) × Events P Q from to ss × (insert_each (moment_zones ss) [] ≡ listed L) × (t ≡ 0)
 moments_parts p = let q = listed_of (insert_each (moment_zones p.at) []) p.built in (p.at, p.events, q.0, q.1)
 
-zone_same : {z w : Zone} → ◌≡◌ {A = MaybeZone} (zone z) (zone w) → z ≡ w
+zone_same : {z w : Zone} → ◌≡◌ {A = Option Zone} (Some z) (Some w) → z ≡ w
 zone_same e = cc
 
 module _ (Shows : ℕ → Level → ℕ → Type 0) {from to : ℕ} (order : from ≤ to) where
@@ -145,7 +144,7 @@ module _ (Shows : ℕ → Level → ℕ → Type 0) {from to : ℕ} (order : fro
   letter_well p =
       let q = letter_parts p in
       built_well (run_zones q.0) q.2
-      (λ z m. let k = Memᴰ.of_map (λ (r : Run). zone (run r.start r.end)) q.0 m in
+      (λ z m. let k = Memᴰ.of_map (λ (r : Run). Some (run r.start r.end)) q.0 m in
       let x = q.1.each k.0 k.1 in
       subst (Proper from to) (zone_same k.2) (proper_run k.0.start k.0.end x.lower x.some x.upper))
 
@@ -153,14 +152,14 @@ module _ (Shows : ℕ → Level → ℕ → Type 0) {from to : ℕ} (order : fro
   moments_well p =
       let q = moments_parts p in
       built_well (moment_zones q.0) q.2
-      (λ z m. let k = Memᴰ.of_map (λ (s : ℕ). zone (moment_zone s)) q.0 m in
+      (λ z m. let k = Memᴰ.of_map (λ (s : ℕ). Some (moment_zone s)) q.0 m in
       let x = q.1.each k.0 k.1 in
       subst (Proper from to) (zone_same k.2) (proper_within x.0 x.1 (proper_diagonal k.0 k.0 (omega arith))))
 
   -- The list of an expression holds tight zones inside from..to, none inside another, at most 128.
   pub evaluates_well : (e : Expression) (t : ℕ) {L : List Zone} → Evaluates Shows from to e (value L t) → WellFormed from to L
   evaluates_well epsilon t p =
-      built_well (zone (diagonal from to) ∷ []) (listed_of (insert_each (zone (diagonal from to) ∷ []) []) p).0
+      built_well (Some (diagonal from to) ∷ []) (listed_of (insert_each (Some (diagonal from to) ∷ []) []) p).0
       (λ z m. subst (Proper from to) (sym (zone_same (eq_of_singleton m))) (proper_diagonal from to order))
   evaluates_well (literal High k) t p = letter_well p
   evaluates_well (literal Low k) t p = letter_well p
@@ -184,30 +183,30 @@ module _ (Shows : ℕ → Level → ℕ → Type 0) {from to : ℕ} (order : fro
 -- ---- some value
 
 -- the relation holds of some value
-abbrev pub Some : (Value → Type 0) → Type 0
-Some P = (v : Value) × P v
+abbrev pub HasValue : (Value → Type 0) → Type 0
+HasValue P = (v : Value) × P v
 
-pub then_some : {operand : Value → Type 0} {next : List Zone → Value → Type 0} → Some operand
-    → ((A : List Zone) (r : ℕ) → operand (value A r) → Some (next A)) → Some (Then operand next)
+pub then_some : {operand : Value → Type 0} {next : List Zone → Value → Type 0} → HasValue operand
+    → ((A : List Zone) (r : ℕ) → operand (value A r) → HasValue (next A)) → HasValue (Then operand next)
 then_some {operand} {next} p f = go p.0 p.1
   where
-    go : (v : Value) → operand v → Some (Then operand next)
+    go : (v : Value) → operand v → HasValue (Then operand next)
     go (value A r) q = let n = f A r q in (with_rounds r n.0, goes q n.1 refl)
     go (overflow b g) q = (overflow b g, stops q)
 
-both_some : (build : List Zone → List Zone → Built) {left right : Value → Type 0} → Some left → Some right → Some (Both build left right)
+both_some : (build : List Zone → List Zone → Built) {left right : Value → Type 0} → HasValue left → HasValue right → HasValue (Both build left right)
 both_some build l r = then_some l (λ A m _. then_some r (λ B n _. (ended (build A B), refl)))
 
 module _ {Shows : ℕ → Level → ℕ → Type 0} {from to : ℕ} (finite : FiniteVariability Shows from to) (some : from < to) where
-  letter_some : (k : ℕ) (level : Level) → Some (Letter (Shows k level) from to)
+  letter_some : (k : ℕ) (level : Level) → HasValue (Letter (Shows k level) from to)
   letter_some k level = let r = finite.runs k level in (ended (insert_each (run_zones r.0) []), record { runs = r.0; maximal = r.1.runs; built = refl })
 
-  moments_some : (k : ℕ) (level : Level) → Some (Moments (Shows k level) (Shows k (other level)) from to)
+  moments_some : (k : ℕ) (level : Level) → HasValue (Moments (Shows k level) (Shows k (other level)) from to)
   moments_some k level = let e = finite.events k level in (ended (insert_each (moment_zones e.0) []), record { at = e.0; events = e.1; built = refl })
 
   -- An expression comes to some value: every repetition ends.
   pub evaluates_exists : (e : Expression) → (v : Value) × Evaluates Shows from to e v
-  evaluates_exists epsilon = (ended (insert_each (zone (diagonal from to) ∷ []) []), refl)
+  evaluates_exists epsilon = (ended (insert_each (Some (diagonal from to) ∷ []) []), refl)
   evaluates_exists (literal High k) = letter_some k level.High
   evaluates_exists (literal Low k) = letter_some k level.Low
   evaluates_exists (literal Rise k) = moments_some k level.Low

@@ -1,5 +1,5 @@
 -- The stretches inside from..to that lie in the list of an expression are those that satisfy it.
-use Rattle.std.proofs.Common.{Option, Some, None}
+use Rattle.std.specs.Prelude.{Option, Some, None}
 use mathlib.Core.Path.{◌≡◌, sym, subst}
 use mathlib.Core.Logic.Iff
 use mathlib.Core.Logic.{◌↔◌, ⊎_map, ⊎_elim}
@@ -9,8 +9,6 @@ use Prim.Native.Nat.{ℕ, suc, ◌≤◌}
 use native.Mathlib.Omega.{arith}
 use Rattle.limit.specs.Time.{Time, at_tick, ◌≤ᵀ◌, ◌<ᵀ◌, ◌≈ᵀ◌}
 use Rattle.zone.specs.declared.Zone.{Zone}
-use Rattle.zone.specs.declared.MaybeZone.{MaybeZone}
-use Rattle.zone.specs.declared.MaybeZone.TheVariants.{Zone as zone}
 use Rattle.limit.specs.Limit.{Within}
 use Rattle.zone.specs.Zone.{In, InMaybe, Stretch, run, diagonal}
 use Rattle.limit.proofs.Times.{≤_trans, ≤-total, ≈-≤, ≤-≈, ≈-sym, ≈-trans, tick-≤}
@@ -49,10 +47,10 @@ pub lies_inside : {from to : ℕ} {L : List Zone} {x y : Time} → AllProper fro
 lies_inside {x = x} {y = y} h l = (h l.in_zone l.among).inside.inside x y l.member
 
 -- what lies in the zones that are put, one of each
-offered_map : {A : Type 0} (f : A → Zone) (xs : List A) (x y : Time) → Offered (map (λ a. zone (f a)) xs) x y ↔ ((a : A) × Memᴰ a xs × In (f a) x y)
+offered_map : {A : Type 0} (f : A → Zone) (xs : List A) (x y : Time) → Offered (map (λ a. Some (f a)) xs) x y ↔ ((a : A) × Memᴰ a xs × In (f a) x y)
 offered_map f xs x y = (
-  λ o. let k = Memᴰ.of_map (λ a. zone (f a)) xs o.1 in (k.0, k.1, subst (λ (z : MaybeZone). InMaybe z x y) (sym k.2) o.2),
-  λ h. (zone (f h.0), Memᴰ.map (λ a. zone (f a)) h.1, h.2),
+  λ o. let k = Memᴰ.of_map (λ a. Some (f a)) xs o.1 in (k.0, k.1, subst (λ (z : Option Zone). InMaybe z x y) (sym k.2) o.2),
+  λ h. (Some (f h.0), Memᴰ.map (λ a. Some (f a)) h.1, h.2),
 )
 
 -- ---- a letter
@@ -167,9 +165,9 @@ module _ (Shows : ℕ → Level → ℕ → Type 0) {from to : ℕ} (finite : Fi
   pub members : (e : Expression) (t : ℕ) {L : List Zone} → Evaluates Shows from to e (value L t)
       → (x y : Time) → Stretch from to x y → Lies L x y ↔ Satisfies Shows e x y
   members epsilon t p x y s =
-      let b = (listed_of (insert_each (zone (diagonal from to) ∷ []) []) p).0 in
+      let b = (listed_of (insert_each (Some (diagonal from to) ∷ []) []) p).0 in
       let d = diagonal_members from to x y in
-      Iff.trans (built_lies (zone (diagonal from to) ∷ []) b x y)
+      Iff.trans (built_lies (Some (diagonal from to) ∷ []) b x y)
       (Iff.trans (offered_one (diagonal from to) x y) (λ i. (d.0 i).1, λ e. d.1 (s.0, e, s.2)))
   members (literal High k) t p x y s = letter_members (finite.runs k level.High) p s
   members (literal Low k) t p x y s = letter_members (finite.runs k level.Low) p s

@@ -1,4 +1,5 @@
 -- The rounds of each `*` written in an expression: their bound, their sum, and the pieces of a repetition.
+use Rattle.std.specs.Prelude.{Some}
 use mathlib.Core.Path.{◌≡◌, refl, sym, subst, ap}
 use mathlib.Core.List.Memᴰ.{not-nil}
 use mathlib.Core.List.{List, [], ◌∷◌, ◌++◌, Memᴰ}
@@ -8,7 +9,6 @@ use native.Mathlib.Omega.{arith}
 use lib.ListN.{length, length-append}
 use Rattle.limit.specs.Time.{Time}
 use Rattle.zone.specs.declared.Zone.{Zone}
-use Rattle.zone.specs.declared.MaybeZone.TheVariants.{Zone as zone}
 use Rattle.zone.specs.Zone.{diagonal}
 use Rattle.list.specs.Insert as puts
 use Rattle.list.specs.Insert.{capacity, Built, listed, insert_each}
@@ -65,7 +65,7 @@ module _ (Shows : ℕ → Level → ℕ → Type 0) {from to : ℕ} where
   -- The total of rounds is the sum of the rounds of every `*` written, 0 where there is none.
   pub evaluates_sum : (e : Expression) (L : List Zone) (t : ℕ) → Evaluates Shows from to e (value L t) → Sum (RoundsOf Shows from to) (repeated e) t
   unfolding repeated
-  evaluates_sum epsilon L t p = rw (listed_of (insert_each (zone (diagonal from to) ∷ []) []) p).1 none
+  evaluates_sum epsilon L t p = rw (listed_of (insert_each (Some (diagonal from to) ∷ []) []) p).1 none
   evaluates_sum (literal High k) L t p = rw (letter_parts p).3 none
   evaluates_sum (literal Low k) L t p = rw (letter_parts p).3 none
   evaluates_sum (literal Rise k) L t p = rw (moments_parts p).3 none
@@ -159,7 +159,7 @@ both_begun build {n = n} few fewer = then_few few (λ A r _ w p. let a = then_fe
 module _ (Shows : ℕ → Level → ℕ → Type 0) (from to : ℕ) where
   -- Of the rounds begun on the way to any value at most one is not finished.
   pub begun_almost : (e : Expression) (v : Value) → Evaluates Shows from to e v → begun v ≤ suc (spent v)
-  begun_almost epsilon v p = built_almost (insert_each (zone (diagonal from to) ∷ []) []) p
+  begun_almost epsilon v p = built_almost (insert_each (Some (diagonal from to) ∷ []) []) p
   begun_almost (literal High k) v p = built_almost (insert_each (run_zones p.runs) []) p.built
   begun_almost (literal Low k) v p = built_almost (insert_each (run_zones p.runs) []) p.built
   begun_almost (literal Rise k) v p = built_almost (insert_each (moment_zones p.at) []) p.built
@@ -173,7 +173,7 @@ module _ (Shows : ℕ → Level → ℕ → Type 0) {from to : ℕ} (some : from
   -- The rounds begun on the way to any value are at most 128 + (to − from) for each `*` written.
   begun_few : (e : Expression) (v : Value) → Evaluates Shows from to e v → begun v ≤ length (repeated e) * (capacity + (to - from))
   unfolding repeated
-  begun_few epsilon v p = let b = built_begun (insert_each (zone (diagonal from to) ∷ []) []) p in omega arith
+  begun_few epsilon v p = let b = built_begun (insert_each (Some (diagonal from to) ∷ []) []) p in omega arith
   begun_few (literal High k) v p = let b = built_begun (insert_each (run_zones p.runs) []) p.built in omega arith
   begun_few (literal Low k) v p = let b = built_begun (insert_each (run_zones p.runs) []) p.built in omega arith
   begun_few (literal Rise k) v p = let b = built_begun (insert_each (moment_zones p.at) []) p.built in omega arith

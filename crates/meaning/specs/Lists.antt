@@ -1,9 +1,7 @@
 -- The list of an expression and its rounds: "The list of an operator is built from the finished lists of its operands, the left one finished
 -- before the right one is begun". Of ticks from..to and any levels.
-use Rattle.std.specs.Prelude.{Option, Some, None, ◌≡◌, List, [], ◌∷◌, ◌++◌, map, ℕ, ◌+◌, ◌-◌}
+use Rattle.std.specs.Prelude.{◌≡◌, List, [], ◌∷◌, ◌++◌, map, ℕ, ◌+◌, ◌-◌, Option, Some, None}
 use Rattle.zone.specs.declared.Zone.{Zone}
-use Rattle.zone.specs.declared.MaybeZone.{MaybeZone}
-use Rattle.zone.specs.declared.MaybeZone.TheVariants.{Zone as zone}
 use Rattle.limit.specs.declared.Limit.{Limit}
 use Rattle.limit.specs.Limit.{most}
 use Rattle.zone.specs.Zone.{run, diagonal, band as bandOf}
@@ -38,8 +36,8 @@ abbrev pub Both : (List Zone → List Zone → Built) → (Value → Type 0) →
 Both build left right = Then left (λ A. Then right (λ B v. v ≡ ended (build A B)))
 
 -- "maximal runs, put in rising time, run s to e giving s ≤ start, end ≤ e, start < end"
-abbrev pub run_zones : List Run → List MaybeZone
-run_zones = map (λ (r : Run). zone (run r.start r.end))
+abbrev pub run_zones : List Run → List (Option Zone)
+run_zones = map (λ (r : Run). Some (run r.start r.end))
 
 pub record Letter (P : ℕ → Type 0) (from to : ℕ) (v : Value) : Type 0 where
   pub runs : List Run
@@ -51,8 +49,8 @@ abbrev pub moment_zone : ℕ → Zone
 moment_zone s = diagonal s s
 
 -- "Their zones are put in rising s"
-abbrev pub moment_zones : List ℕ → List MaybeZone
-moment_zones = map (λ (s : ℕ). zone (moment_zone s))
+abbrev pub moment_zones : List ℕ → List (Option Zone)
+moment_zones = map (λ (s : ℕ). Some (moment_zone s))
 
 pub record Moments (P Q : ℕ → Type 0) (from to : ℕ) (v : Value) : Type 0 where
   pub at : List ℕ
@@ -65,7 +63,7 @@ longest from to None = most (to - from)
 longest from to (Some hi) = upper_limit hi
 
 -- "The band's meet now carries a reached or not reached limit on either end"
-abbrev pub range_band : ℕ → ℕ → Range → MaybeZone
+abbrev pub range_band : ℕ → ℕ → Range → Option Zone
 range_band from to r = bandOf from to (longest from to r.hi) (lower_limit r.lo)
 
 -- "`|`: put the left zones, then the right ones, into an empty list"; "`&` and `.`: for each left zone, for each right zone, put the meet (for
@@ -85,7 +83,7 @@ applied from to Absence A v = v ≡ ended (absent from to A)
 -- the expression comes to the value
 abbrev pub Evaluates : (Shows : ℕ → Level → ℕ → Type 0) (from to : ℕ) → Expression → Value → Type 0
 -- "`_`: the diagonal, start = end"
-Evaluates Shows from to epsilon v = v ≡ ended (insert_each (zone (diagonal from to) ∷ []) [])
+Evaluates Shows from to epsilon v = v ≡ ended (insert_each (Some (diagonal from to) ∷ []) [])
 -- "a letter or `!`"
 Evaluates Shows from to (literal sign.High k) v = Letter (Shows k High) from to v
 Evaluates Shows from to (literal sign.Low k) v = Letter (Shows k Low) from to v

@@ -1,4 +1,5 @@
 -- What the loops have put together, as the answers of the operators.
+use Rattle.std.specs.Prelude.{Option, Some}
 use mathlib.Core.Path.{◌≡◌, sym, ap, subst, ◌∙◌}
 use mathlib.Core.List.{List, [], ◌∷◌, map}
 use Prim.Native.Nat.{ℕ, ◌+◌, ◌-◌, ◌*◌, ◌≤◌, ◌<◌}
@@ -6,8 +7,6 @@ use native.Mathlib.Omega.{arith}
 use lib.IntN.{ℤ}
 use lib.ListN.{length}
 use Rattle.zone.specs.declared.Zone.{Zone}
-use Rattle.zone.specs.declared.MaybeZone.{MaybeZone}
-use Rattle.zone.specs.declared.MaybeZone.TheVariants.{Zone as zone}
 use Rattle.zone.specs.Zone.{Proper}
 use Rattle.words.specs.Words.{zone_at, codes, overwrite}
 use Rattle.words.proofs.Words.{written_zone}
@@ -24,7 +23,7 @@ use Rattle.growing.proofs.Loops.{insert_each_append}
 
 -- ---- an empty list that grew
 
-module _ (rs : List MaybeZone) (ws : List ℤ) (target : ℕ) {g : Growing} (b : Begins 0 g) where
+module _ (rs : List (Option Zone)) (ws : List ℤ) (target : ℕ) {g : Growing} (b : Begins 0 g) where
   empty_list : insert_each rs (list_at ws target g.count) ≡ insert_each rs []
   unfolding list_at
   empty_list = ap (λ (n : ℕ). insert_each rs (list_at ws target n)) b.count
@@ -41,28 +40,28 @@ begun_operands {ws} {left} {n} {right} {m} {target} o b = (subst (Operands ws le
 
 -- ---- the zones of a slot, one after the other
 
-pub zones_next : (ws : List ℤ) (base n i : ℕ) → i < n → map zone (list_at ws (base + i * 6) (n - i)) ≡ zone (zone_at ws (base + i * 6)) ∷ map zone (list_at ws (base + (i + 1) * 6) (n - (i + 1)))
-zones_next ws base n i l = ap (map zone) (list_at_next ws base n i l)
+pub zones_next : (ws : List ℤ) (base n i : ℕ) → i < n → map Some (list_at ws (base + i * 6) (n - i)) ≡ Some (zone_at ws (base + i * 6)) ∷ map Some (list_at ws (base + (i + 1) * 6) (n - (i + 1)))
+zones_next ws base n i l = ap (map Some) (list_at_next ws base n i l)
 
 -- ---- `|`: the left zones, then the right ones
 
 module _ (A B : List Zone) where
-  in_turn : union A B ≡ then (insert_each (map zone A) []) (insert_each (map zone B))
+  in_turn : union A B ≡ then (insert_each (map Some A) []) (insert_each (map Some B))
   unfolding union
-  in_turn = insert_each_append (map zone A) (map zone B) []
+  in_turn = insert_each_append (map Some A) (map Some B) []
 
-  pub union_left_overflow : {P : Type 0} → (insert_each (map zone A) [] ≡ overflow) × P → (union A B ≡ overflow) × P
-  union_left_overflow o = (in_turn ∙ ap (λ (r : Built). then r (insert_each (map zone B))) o.0, o.1)
+  pub union_left_overflow : {P : Type 0} → (insert_each (map Some A) [] ≡ overflow) × P → (union A B ≡ overflow) × P
+  union_left_overflow o = (in_turn ∙ ap (λ (r : Built). then r (insert_each (map Some B))) o.0, o.1)
 
   -- after the left zones: B' is the right list, read from the words as they are then
-  module _ {us : List ℤ} {target k : ℕ} (g : Listing (insert_each (map zone A) []) us target k) {B' : List Zone} (e : B' ≡ B) where
-    then_right : union A B ≡ insert_each (map zone B') (list_at us target k)
-    then_right = in_turn ∙ ap (λ (r : Built). then r (insert_each (map zone B))) g.value ∙ ap (insert_each (map zone B)) (sym g.holds.zones) ∙ ap (λ (C : List Zone). insert_each (map zone C) (list_at us target k)) (sym e)
+  module _ {us : List ℤ} {target k : ℕ} (g : Listing (insert_each (map Some A) []) us target k) {B' : List Zone} (e : B' ≡ B) where
+    then_right : union A B ≡ insert_each (map Some B') (list_at us target k)
+    then_right = in_turn ∙ ap (λ (r : Built). then r (insert_each (map Some B))) g.value ∙ ap (insert_each (map Some B)) (sym g.holds.zones) ∙ ap (λ (C : List Zone). insert_each (map Some C) (list_at us target k)) (sym e)
 
-    pub union_right_overflow : {P : Type 0} → (insert_each (map zone B') (list_at us target k) ≡ overflow) × P → (union A B ≡ overflow) × P
+    pub union_right_overflow : {P : Type 0} → (insert_each (map Some B') (list_at us target k) ≡ overflow) × P → (union A B ≡ overflow) × P
     union_right_overflow o = (then_right ∙ o.0, o.1)
 
-    pub union_listing : {Counts : ℕ → Type 0} {g h : Growing} {L : List Zone} {vs : List ℤ} → Growth (insert_each (map zone B') (list_at us target k)) Counts g L vs target h → Listing (union A B) vs target h.count
+    pub union_listing : {Counts : ℕ → Type 0} {g h : Growing} {L : List Zone} {vs : List ℤ} → Growth (insert_each (map Some B') (list_at us target k)) Counts g L vs target h → Listing (union A B) vs target h.count
     union_listing w = record { list = w.list; value = then_right ∙ w.value; holds = w.holds }
 
 -- ---- one zone, written into a slot of its own

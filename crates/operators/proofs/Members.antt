@@ -1,11 +1,11 @@
 -- What lies in the zones that a pair loop puts.
+use Rattle.std.specs.Prelude.{Option}
 use mathlib.Core.Path.{sym, subst}
 use mathlib.Core.Logic.{◌↔◌}
 use mathlib.Core.List.{List, Memᴰ}
 use Prim.Native.Nat.{ℕ}
 use Rattle.limit.specs.Time.{Time}
 use Rattle.zone.specs.declared.Zone.{Zone}
-use Rattle.zone.specs.declared.MaybeZone.{MaybeZone}
 use Rattle.zone.specs.Zone.{InMaybe}
 use Rattle.zone.proofs.Laws.{meet_members, compose_members}
 use Rattle.pairs.specs.declared.Operation.{Operation}
@@ -21,7 +21,7 @@ use Rattle.list.proofs.Members.{lies}
 module _ (A B : List Zone) (x y : Time) where
   offered_pairs : (op : Operation) → Offered (pairs op A B) x y ↔ ((z w : Zone) × Memᴰ z A × Memᴰ w B × InMaybe (apply op z w) x y)
   offered_pairs op = (
-    λ o. let p = pairs_mem op A B o.1 in (p.0, p.1, p.2, p.3, subst (λ (q : MaybeZone). InMaybe q x y) (sym p.4) o.2),
+    λ o. let p = pairs_mem op A B o.1 in (p.0, p.1, p.2, p.3, subst (λ (q : Option Zone). InMaybe q x y) (sym p.4) o.2),
     λ p. (apply op p.0 p.1, mem_pairs op p.2 p.3, p.4),
   )
 

@@ -1,5 +1,6 @@
 -- The theorems on the list of each operator: what lies in it, and that it is well formed where the lists of its operands are. The page that the
 -- crates above cite. x, y and t are times num / den of any denominators.
+use Rattle.std.specs.Prelude.{Option, Some, None}
 use mathlib.Core.Path.{◌≡◌, subst}
 use mathlib.Core.Logic.Iff
 use mathlib.Core.Logic.{◌↔◌, ◌⊎◌, ⊎_map, ⊎_elim}
@@ -9,8 +10,6 @@ use mathlib.Core.List.{List, [], ◌∷◌, ◌++◌, map}
 use Prim.Native.Nat.{ℕ}
 use Rattle.limit.specs.Time.{Time}
 use Rattle.zone.specs.declared.Zone.{Zone}
-use Rattle.zone.specs.declared.MaybeZone.{MaybeZone}
-use Rattle.zone.specs.declared.MaybeZone.TheVariants.{Zone as zone, Empty as empty}
 use Rattle.zone.specs.Zone.{InMaybe}
 use Rattle.zone.proofs.Laws.{proper_meet, proper_compose}
 use Rattle.list.specs.Insert.{listed, insert_each}
@@ -27,14 +26,14 @@ module _ (A B : List Zone) {L : List Zone} where
   -- `|`: either
   pub union_lies : union A B ≡ listed L → (x y : Time) → Lies L x y ↔ (Lies A x y ⊎ Lies B x y)
   unfolding union
-  union_lies e x y = Iff.trans (built_lies (map zone A ++ map zone B) e x y) (Iff.trans (offered_append (map zone A) (map zone B) x y) (
+  union_lies e x y = Iff.trans (built_lies (map Some A ++ map Some B) e x y) (Iff.trans (offered_append (map Some A) (map Some B) x y) (
     ⊎_map (offered_zones A x y).0 (offered_zones B x y).0,
     ⊎_map (offered_zones A x y).1 (offered_zones B x y).1,
   ))
 
   pub union_well : {from to : ℕ} → AllProper from to A → AllProper from to B → union A B ≡ listed L → WellFormed from to L
   unfolding union
-  union_well a b e = built_well (map zone A ++ map zone B) e (λ z m. ⊎_elim (λ n. a z (mem_zones A n)) (λ n. b z (mem_zones B n)) (append_cases (map zone A) m))
+  union_well a b e = built_well (map Some A ++ map Some B) e (λ z m. ⊎_elim (λ n. a z (mem_zones A n)) (λ n. b z (mem_zones B n)) (append_cases (map Some A) m))
 
   -- `&`: both
   pub meets_lies : meets A B ≡ listed L → (x y : Time) → Lies L x y ↔ (Lies A x y × Lies B x y)
@@ -56,12 +55,12 @@ module _ (A B : List Zone) {L : List Zone} where
     compositions_well = built_well (pairs Compose A B) e (λ z m. let p = pairs_mem Compose A B m in proper_compose (a p.0 p.2) (b p.1 p.3) p.4)
 
 -- `{lo,hi}`: also in the band
-pub banded_lies : (b : MaybeZone) (A : List Zone) {L : List Zone} → banded b A ≡ listed L → (x y : Time) → Lies L x y ↔ (Lies A x y × InMaybe b x y)
+pub banded_lies : (b : Option Zone) (A : List Zone) {L : List Zone} → banded b A ≡ listed L → (x y : Time) → Lies L x y ↔ (Lies A x y × InMaybe b x y)
 unfolding banded meets
-banded_lies (zone b) A e x y = Iff.trans (meets_lies A (b ∷ []) e x y) (λ l. (l.0, (lies_one b x y).0 l.1), λ l. (l.0, (lies_one b x y).1 l.1))
-banded_lies empty A {L} e x y = (λ l. absurd (nothing_lies (let q : L ≡ [] = cc in subst (λ (K : List Zone). Lies K x y) q l)), λ l. absurd l.1)
+banded_lies (Some b) A e x y = Iff.trans (meets_lies A (b ∷ []) e x y) (λ l. (l.0, (lies_one b x y).0 l.1), λ l. (l.0, (lies_one b x y).1 l.1))
+banded_lies None A {L} e x y = (λ l. absurd (nothing_lies (let q : L ≡ [] = cc in subst (λ (K : List Zone). Lies K x y) q l)), λ l. absurd l.1)
 
-pub banded_well : {from to : ℕ} (b : MaybeZone) (A : List Zone) {L : List Zone} → AllProper from to A → banded b A ≡ listed L → WellFormed from to L
+pub banded_well : {from to : ℕ} (b : Option Zone) (A : List Zone) {L : List Zone} → AllProper from to A → banded b A ≡ listed L → WellFormed from to L
 unfolding banded meets
-banded_well (zone b) A a e = meets_well A (b ∷ []) a e
-banded_well empty A {L} a e = built_well [] (unfold insert_each in e) (λ z m. absurd (not-nil m))
+banded_well (Some b) A a e = meets_well A (b ∷ []) a e
+banded_well None A {L} a e = built_well [] (unfold insert_each in e) (λ z m. absurd (not-nil m))

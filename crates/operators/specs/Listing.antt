@@ -1,18 +1,14 @@
 -- What an operator requires and answers, in the slots of a buffer.
-use Rattle.std.specs.Prelude.{◌≡◌, List, ℕ, ℤ}
+use Rattle.std.specs.Prelude.{◌≡◌, List, ℕ, ℤ, Option, Some, None, Result, Ok, Err}
 use Rattle.zone.specs.declared.Zone.{Zone}
-use Rattle.zone.specs.declared.MaybeZone.{MaybeZone}
-use Rattle.zone.specs.declared.MaybeZone.TheVariants.{Zone as zone, Empty as empty}
 use Rattle.zone.specs.Zone.{Proper}
+use Rattle.list.specs.declared.Overflow.{Overflow}
 use Rattle.list.specs.Insert.{Built, listed, overflow}
 use Rattle.list.specs.Slots.{Free, Source, Disjoint, Holds}
 use Rattle.pairs.specs.Counted.{Counted}
 use Rattle.pairs.specs.Pairs.{Touching, crossed}
 use Rattle.operators.specs.Operators.{compositions}
-use Rattle.operators.specs.declared.Listed.{Listed}
-use Rattle.operators.specs.declared.Listed.TheVariants.{Count, Overflow}
 use Rattle.operators.specs.declared.Composed.{Composed}
-use Rattle.operators.specs.declared.Composed.TheVariants.{Finished, Overflow}
 
 -- the list of one operand, a free slot for the operator's list and one for scratch; no two of the three have a word in common
 pub record Workspace (ws : List ℤ) (source n target scratch : ℕ) : Type 0 where
@@ -24,9 +20,9 @@ pub record Workspace (ws : List ℤ) (source n target scratch : ℕ) : Type 0 wh
   pub both_apart : Disjoint target scratch
 
 -- a band that zones can be met with
-abbrev pub SoundBand : MaybeZone → Type 0
-SoundBand (zone z) = Proper 0 1_000_000 z
-SoundBand empty = Unit {0}
+abbrev pub SoundBand : Option Zone → Type 0
+SoundBand (Some z) = Proper 0 1_000_000 z
+SoundBand None = Unit {0}
 
 -- what an operator answers, where the rule comes to `built`: the slot at `target` holds the list, or one would have 129 zones and the slot is free
 pub record Listing (built : Built) (vs : List ℤ) (target n : ℕ) : Type 0 where
@@ -34,12 +30,12 @@ pub record Listing (built : Built) (vs : List ℤ) (target n : ℕ) : Type 0 whe
   pub value : built ≡ listed list
   pub holds : Holds vs target n list
 
-abbrev pub BuiltAs : Built → List ℤ → ℕ → Listed → Type 0
-BuiltAs built vs target (Count n) = Listing built vs target n
-BuiltAs built vs target Overflow = (built ≡ overflow) × Free vs target
+abbrev pub BuiltAs : Built → List ℤ → ℕ → Result ℕ Overflow → Type 0
+BuiltAs built vs target (Ok n) = Listing built vs target n
+BuiltAs built vs target (Err e) = (built ≡ overflow) × Free vs target
 
 -- what `.` answers, of the lists A and B: the list, "how many pairs it composed: exactly those with such a time in common"; what one that is not
 -- finished has composed is not told
-abbrev pub ComposedAs : List Zone → List Zone → List ℤ → ℕ → Composed → Type 0
-ComposedAs A B vs target (Finished n pairs) = Listing (compositions A B) vs target n × Counted Touching (crossed A B) pairs
-ComposedAs A B vs target Overflow = (compositions A B ≡ overflow) × Free vs target
+abbrev pub ComposedAs : List Zone → List Zone → List ℤ → ℕ → Result Composed Overflow → Type 0
+ComposedAs A B vs target (Ok c) = Listing (compositions A B) vs target c.count × Counted Touching (crossed A B) c.pairs
+ComposedAs A B vs target (Err e) = (compositions A B ≡ overflow) × Free vs target

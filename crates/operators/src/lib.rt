@@ -4,8 +4,7 @@
 // inside 0..1,000,000, which every rule keeps.
 #![tactic(auto)]
 
-ghost use Rattle.std.specs.Prelude.{[], ◌∷◌, map, ◌+◌, ◌≤◌, length};
-ghost use Rattle.zone.specs.declared.MaybeZone.TheVariants.{Zone as zone};
+ghost use Rattle.std.specs.Prelude.{[], ◌∷◌, map, ◌+◌, ◌≤◌, length, Some};
 ghost use Rattle.words.specs.Words.{zone_words, zone_at};
 ghost use Rattle.operators.specs.Operators.{union, meets, banded};
 ghost use Rattle.list.specs.Slots.{slot_words, list_at, Free, Kept, KeptBoth};
@@ -13,29 +12,23 @@ ghost use Rattle.growing.specs.Growth.{Stands, NoPair, GrowsAs};
 ghost use Rattle.pairs.specs.Operands.{Supply, Operands};
 ghost use Rattle.operators.specs.Listing.{Workspace, SoundBand, BuiltAs, ComposedAs};
 
-use growing::{Growing, Grown};
+use growing::Growing;
+use list::Overflow;
 use pairs::Operation;
 use words::ZONE_WORDS;
-use zone::MaybeZone;
+use zone::Zone;
 
-// What an operator comes to: a list with its count, or one that would have 129 zones.
+// What `.` comes to: a list with its count, and the number of pairs composed.
 #[derive(Clone, Copy)]
-pub enum Listed {
-    Count(usize),
-    Overflow,
-}
-
-// What `.` comes to: a list with its count, and the number of pairs composed; or one that would have 129 zones.
-#[derive(Clone, Copy)]
-pub enum Composed {
-    Finished { count: usize, pairs: usize },
-    Overflow,
+pub struct Composed {
+    pub count: usize,
+    pub pairs: usize,
 }
 
 // Puts the zone from `at` on.
-fn grow_from(words: &mut [i32], at: usize, target: usize, g: Growing) -> Grown
+fn grow_from(words: &mut [i32], at: usize, target: usize, g: Growing) -> Result<Growing, Overflow>
     requires { (at + zone_words ≤ length words.old) × (Stands words.old target g) }
-    ensures grown { GrowsAs (zone (zone_at words.old at) ∷ []) NoPair g words.old target words.new result }
+    ensures grown { GrowsAs (Some (zone_at words.old at) ∷ []) NoPair g words.old target words.new result }
     ensures kept { Kept target slot_words words.old words.new }
 {
     let mut w = [0i32; ZONE_WORDS];
@@ -44,21 +37,22 @@ fn grow_from(words: &mut [i32], at: usize, target: usize, g: Growing) -> Grown
 }
 
 // Puts the n zones of a slot, in their order.
-fn each_zone(words: &mut [i32], source: usize, n: usize, target: usize, g: Growing) -> Grown
+fn each_zone(
+    words: &mut [i32],
+    source: usize,
+    n: usize,
+    target: usize,
+    g: Growing,
+) -> Result<Growing, Overflow>
     requires { (Supply words.old source n target g.count) × (Stands words.old target g) }
-    ensures grown { GrowsAs (map zone (list_at words.old source n)) NoPair g words.old target words.new result }
+    ensures grown { GrowsAs (map Some (list_at words.old source n)) NoPair g words.old target words.new result }
     ensures kept { Kept target slot_words words.old words.new }
 {
     let mut grown = g;
-    let mut i = 0;
-    while i < n {
-        let Grown::Grew(next) = grow_from(words, source + i * ZONE_WORDS, target, grown) else {
-            return Grown::Overflow;
-        };
-        grown = next;
-        i += 1;
+    for i in 0..n {
+        grown = grow_from(words, source + i * ZONE_WORDS, target, grown)?;
     }
-    Grown::Grew(grown)
+    Ok(grown)
 }
 
 // `|`: the left zones, then the right ones, into an empty list at `target`.
@@ -69,18 +63,14 @@ pub fn union(
     right: usize,
     m: usize,
     target: usize,
-) -> Listed
+) -> Result<usize, Overflow>
     requires { Operands words.old left n right m target 0 }
     ensures built { BuiltAs (union (list_at words.old left n) (list_at words.old right m)) words.new target result }
     ensures kept { Kept target slot_words words.old words.new }
 {
-    let Grown::Grew(lefts) = each_zone(words, left, n, target, growing::nothing()) else {
-        return Listed::Overflow;
-    };
-    let Grown::Grew(all) = each_zone(words, right, m, target, lefts) else {
-        return Listed::Overflow;
-    };
-    Listed::Count(all.count)
+    let lefts = each_zone(words, left, n, target, growing::nothing())?;
+    let all = each_zone(words, right, m, target, lefts)?;
+    Ok(all.count)
 }
 
 // `&`: the meets of all pairs, into an empty list at `target`.
@@ -91,17 +81,14 @@ pub fn meets(
     right: usize,
     m: usize,
     target: usize,
-) -> Listed
+) -> Result<usize, Overflow>
     requires { Operands words.old left n right m target 0 }
     ensures built { BuiltAs (meets (list_at words.old left n) (list_at words.old right m)) words.new target result }
     ensures kept { Kept target slot_words words.old words.new }
 {
     let empty = growing::nothing();
-    let grown = products::each_pair(words, Operation::Meet, left, n, right, m, target, empty);
-    let Grown::Grew(g) = grown else {
-        return Listed::Overflow;
-    };
-    Listed::Count(g.count)
+    let g = products::each_pair(words, Operation::Meet, left, n, right, m, target, empty)?;
+    Ok(g.count)
 }
 
 // `.`: the compositions of all pairs, into an empty list at `target`, and how many pairs were composed: those in which some end of the
@@ -113,20 +100,17 @@ pub fn compositions(
     right: usize,
     m: usize,
     target: usize,
-) -> Composed
+) -> Result<Composed, Overflow>
     requires { Operands words.old left n right m target 0 }
     ensures composed { ComposedAs (list_at words.old left n) (list_at words.old right m) words.new target result }
     ensures kept { Kept target slot_words words.old words.new }
 {
     let empty = growing::nothing();
-    let grown = products::each_pair(words, Operation::Compose, left, n, right, m, target, empty);
-    let Grown::Grew(g) = grown else {
-        return Composed::Overflow;
-    };
-    Composed::Finished {
+    let g = products::each_pair(words, Operation::Compose, left, n, right, m, target, empty)?;
+    Ok(Composed {
         count: g.count,
         pairs: g.pairs,
-    }
+    })
 }
 
 // `{lo,hi}`: each zone's meet with the band, into an empty list at `target`. The band stands in the slot `scratch`, which is
@@ -135,17 +119,17 @@ pub fn band(
     words: &mut [i32],
     source: usize,
     n: usize,
-    limits: MaybeZone,
+    limits: Option<Zone>,
     scratch: usize,
     target: usize,
-) -> Listed
+) -> Result<usize, Overflow>
     requires { (Workspace words.old source n target scratch) × (SoundBand limits) }
     ensures built { BuiltAs (banded limits (list_at words.old source n)) words.new target result }
     ensures kept { KeptBoth target scratch words.old words.new }
     ensures free { Free words.new scratch }
 {
-    let MaybeZone::Zone(z) = limits else {
-        return Listed::Count(0);
+    let Some(z) = limits else {
+        return Ok(0);
     };
     words::write_zone(words, scratch, z);
     meets(words, source, n, scratch, 1, target)

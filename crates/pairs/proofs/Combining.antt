@@ -1,4 +1,5 @@
 -- The loops over pairs: what has been put and counted, and what is still to come.
+use Rattle.std.specs.Prelude.{Option, Some, None}
 use mathlib.Core.Path.{◌≡◌, refl, sym, ap, subst, ◌∙◌}
 use mathlib.Core.List.Memᴰ.{head}
 use mathlib.Core.List.Memᴰ.{tail}
@@ -8,8 +9,6 @@ use native.Mathlib.Omega.{arith}
 use lib.IntN.{ℤ}
 use lib.ListN.{length, length-append}
 use Rattle.zone.specs.declared.Zone.{Zone}
-use Rattle.zone.specs.declared.MaybeZone.{MaybeZone}
-use Rattle.zone.specs.declared.MaybeZone.TheVariants.{Zone as zone, Empty as empty}
 use Rattle.list.specs.Insert.{listed, overflow, insert_each}
 use Rattle.list.specs.Slots.{list_at, Kept}
 use Rattle.growing.specs.declared.Growing.{Growing}
@@ -35,10 +34,10 @@ pub record Combining (op : Operation) (todo whole : List (Zone × Zone)) (g₀ :
 pub combining_start : (op : Operation) (ps : List (Zone × Zone)) (target : ℕ) (ws : List ℤ) (g : Growing) → Stands ws target g → Combining op ps ps g target ws ws g
 combining_start op ps target ws g s = record { going = going_start (map (applied op) ps) target ws g s; done = []; all = refl; some = 0; counted = none; sum = omega arith }
 
-all_empty : (op : Operation) (ps : List (Zone × Zone)) (L : List Zone) → ((p : Zone × Zone) → Memᴰ p ps → applied op p ≡ empty) → insert_each (map (applied op) ps) L ≡ listed L
+all_empty : (op : Operation) (ps : List (Zone × Zone)) (L : List Zone) → ((p : Zone × Zone) → Memᴰ p ps → applied op p ≡ None) → insert_each (map (applied op) ps) L ≡ listed L
 unfolding insert_each
 all_empty op [] L f = refl
-all_empty op (p ∷ ps) L f = ap (λ (r : MaybeZone). insert_each (r ∷ map (applied op) ps) L) (f p (head refl)) ∙ all_empty op ps L (λ q m. f q (tail m))
+all_empty op (p ∷ ps) L f = ap (λ (r : Option Zone). insert_each (r ∷ map (applied op) ps) L) (f p (head refl)) ∙ all_empty op ps L (λ q m. f q (tail m))
 
 module _ {op : Operation} {whole : List (Zone × Zone)} {g₀ : Growing} {target : ℕ} {ws₀ ws : List ℤ} {g : Growing} where
   pub combining_same : {todo other : List (Zone × Zone)} → todo ≡ other → Combining op todo whole g₀ target ws₀ ws g → Combining op other whole g₀ target ws₀ ws g
@@ -68,7 +67,7 @@ module _ {op : Operation} {whole : List (Zone × Zone)} {g₀ : Growing} {target
     combining_overflow o = going_overflow (map (applied op) ps) (map (applied op) todo) parts o
 
     -- none of them gives anything
-    pub combining_past : ((p : Zone × Zone) → Memᴰ p ps → (applied op p ≡ empty) × (¬ Composed op p)) → Combining op todo whole g₀ target ws₀ ws g
+    pub combining_past : ((p : Zone × Zone) → Memᴰ p ps → (applied op p ≡ None) × (¬ Composed op p)) → Combining op todo whole g₀ target ws₀ ws g
     combining_past f =
         combining_on
         (record {
@@ -92,11 +91,11 @@ module _ {op : Operation} {whole : List (Zone × Zone)} {g₀ : Growing} {target
 
 module _ {z w v : Zone} {L : List Zone} {vs : List ℤ} {target : ℕ} {g h : Growing} where
   -- a meet: no pair is composed
-  pub met : apply Meet z w ≡ zone v → Growth (insert_each (zone v ∷ []) L) NoPair g L vs target h → Growth (insert_each (map (applied Meet) ((z, w) ∷ [])) L) (Counted (Composed Meet) ((z, w) ∷ [])) g L vs target h
+  pub met : apply Meet z w ≡ Some v → Growth (insert_each (Some v ∷ []) L) NoPair g L vs target h → Growth (insert_each (map (applied Meet) ((z, w) ∷ [])) L) (Counted (Composed Meet) ((z, w) ∷ [])) g L vs target h
   met e b =
       record {
         list = b.list;
-        value = ap (λ (r : MaybeZone). insert_each (r ∷ []) L) e ∙ b.value;
+        value = ap (λ (r : Option Zone). insert_each (r ∷ []) L) e ∙ b.value;
         holds = b.holds;
         alters = b.alters;
         composed = 0;
@@ -106,11 +105,11 @@ module _ {z w v : Zone} {L : List Zone} {vs : List ℤ} {target : ℕ} {g h : Gr
       }
 
   -- a composition: it was counted before it was put
-  pub composed_one : apply Compose z w ≡ zone v → Composed Compose (z, w) → Growth (insert_each (zone v ∷ []) L) NoPair (one_more g) L vs target h → Growth (insert_each (map (applied Compose) ((z, w) ∷ [])) L) (Counted (Composed Compose) ((z, w) ∷ [])) g L vs target h
+  pub composed_one : apply Compose z w ≡ Some v → Composed Compose (z, w) → Growth (insert_each (Some v ∷ []) L) NoPair (one_more g) L vs target h → Growth (insert_each (map (applied Compose) ((z, w) ∷ [])) L) (Counted (Composed Compose) ((z, w) ∷ [])) g L vs target h
   composed_one e t b =
       record {
         list = b.list;
-        value = ap (λ (r : MaybeZone). insert_each (r ∷ []) L) e ∙ b.value;
+        value = ap (λ (r : Option Zone). insert_each (r ∷ []) L) e ∙ b.value;
         holds = b.holds;
         alters = b.alters;
         composed = 1;

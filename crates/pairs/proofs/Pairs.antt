@@ -1,4 +1,5 @@
 -- What a pair loop goes through: the answer for each left zone and each right zone, and no other.
+use Rattle.std.specs.Prelude.{Option}
 use mathlib.Core.Path.{◌≡◌, refl, sym, ap, ◌∙◌}
 use mathlib.Core.Logic.{◌⊎◌, inl, inr}
 use mathlib.Core.List.Memᴰ
@@ -10,15 +11,14 @@ use mathlib.Core.List.Memᴰ.{not-nil}
 use mathlib.Core.List.Memᴰ.{tail}
 use mathlib.Core.List.{List, [], ◌∷◌, ◌++◌, map, Memᴰ, append_assoc, map-append}
 use Rattle.zone.specs.declared.Zone.{Zone}
-use Rattle.zone.specs.declared.MaybeZone.{MaybeZone}
 use Rattle.pairs.specs.Pairs.{Operation, apply, pairs, beside, crossed}
 use Rattle.pairs.specs.Row.{applied}
 
 -- r is the answer for a zone of A and a zone of B
-abbrev pub Paired : Operation → List Zone → List Zone → MaybeZone → Type 0
+abbrev pub Paired : Operation → List Zone → List Zone → Option Zone → Type 0
 Paired op A B r = (z w : Zone) × Memᴰ z A × Memᴰ w B × (apply op z w ≡ r)
 
-pub pairs_mem : (op : Operation) (A B : List Zone) {r : MaybeZone} → Memᴰ r (pairs op A B) → Paired op A B r
+pub pairs_mem : (op : Operation) (A B : List Zone) {r : Option Zone} → Memᴰ r (pairs op A B) → Paired op A B r
 unfolding pairs
 pairs_mem op [] B m = absurd (not-nil m)
 pairs_mem op (z ∷ A) B {r} m = go (λ n. pairs_mem op A B n) (append_cases (map (apply op z) B) m)
@@ -35,12 +35,12 @@ mem_pairs op {B = B} (tail {x = a} m) n = append_right (map (apply op a) B) (mem
 pub pairs_append : (op : Operation) (A B C : List Zone) → pairs op (A ++ B) C ≡ pairs op A C ++ pairs op B C
 unfolding pairs
 pairs_append op [] B C = refl
-pairs_append op (z ∷ A) B C = ap (λ (k : List MaybeZone). map (apply op z) C ++ k) (pairs_append op A B C) ∙ sym (append_assoc (map (apply op z) C) (pairs op A C) (pairs op B C))
+pairs_append op (z ∷ A) B C = ap (λ (k : List (Option Zone)). map (apply op z) C ++ k) (pairs_append op A B C) ∙ sym (append_assoc (map (apply op z) C) (pairs op A C) (pairs op B C))
 
 -- the answers are those for the pairs
 beside_applied : (op : Operation) (z : Zone) (B : List Zone) → map (applied op) (beside z B) ≡ map (apply op z) B
 beside_applied op z [] = refl
-beside_applied op z (w ∷ B) = ap (λ (k : List MaybeZone). apply op z w ∷ k) (beside_applied op z B)
+beside_applied op z (w ∷ B) = ap (λ (k : List (Option Zone)). apply op z w ∷ k) (beside_applied op z B)
 
 pub crossed_applied : (op : Operation) (A B : List Zone) → map (applied op) (crossed A B) ≡ pairs op A B
 unfolding crossed pairs

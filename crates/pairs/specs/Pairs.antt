@@ -1,18 +1,17 @@
 -- What the pair loops put: the answer for each left zone and each right zone; and which pairs they compose.
-use Rattle.std.specs.Prelude.{List, [], ◌∷◌, ◌++◌, map}
+use Rattle.std.specs.Prelude.{List, [], ◌∷◌, ◌++◌, map, Option}
 use Rattle.zone.specs.declared.Zone.{Zone}
-use Rattle.zone.specs.declared.MaybeZone.{MaybeZone}
 use Rattle.zone.specs.Zone.{Touches, meet, compose}
 pub use Rattle.pairs.specs.declared.Operation.{Operation}
 pub use Rattle.pairs.specs.declared.Operation.TheVariants.{Meet, Compose}
 
 -- what an operation makes of a pair
-abbrev pub apply : Operation → Zone → Zone → MaybeZone
+abbrev pub apply : Operation → Zone → Zone → Option Zone
 apply Meet z w = meet z w
 apply Compose z w = compose z w
 
 -- "for each left zone, for each right zone", the meet or the composition
-unfoldable pub pairs : Operation → List Zone → List Zone → List MaybeZone
+unfoldable pub pairs : Operation → List Zone → List Zone → List (Option Zone)
 pairs op [] B = []
 pairs op (z ∷ A) B = map (apply op z) B ++ pairs op A B
 

@@ -1,11 +1,10 @@
 -- One zone with each of some others: what is required, and what is put.
-use Rattle.std.specs.Prelude.{◌⊎◌, List, map, ℕ, ◌+◌, ◌*◌, ◌≤◌, ℤ, length}
+use Rattle.std.specs.Prelude.{◌⊎◌, List, map, ℕ, ◌+◌, ◌*◌, ◌≤◌, ℤ, length, Option, Result}
 use Rattle.zone.specs.declared.Zone.{Zone}
-use Rattle.zone.specs.declared.MaybeZone.{MaybeZone}
 use Rattle.words.specs.Words.{zone_words}
 use Rattle.list.specs.Slots.{slot_words, list_at, Sound}
 use Rattle.growing.specs.declared.Growing.{Growing}
-use Rattle.growing.specs.declared.Grown.{Grown}
+use Rattle.list.specs.declared.Overflow.{Overflow}
 use Rattle.growing.specs.Growth.{Stands, GrowsAs}
 use Rattle.pairs.specs.Counted.{Counted}
 use Rattle.pairs.specs.Pairs.{Operation, apply, Composed}
@@ -28,9 +27,9 @@ pub record Pairing (ws : List ℤ) (left right m target : ℕ) (g : Growing) : T
   pub countable : g.pairs + m ≤ most_pairs
 
 -- what an operation makes of a pair
-abbrev pub applied : Operation → Zone × Zone → MaybeZone
+abbrev pub applied : Operation → Zone × Zone → Option Zone
 applied op p = apply op p.0 p.1
 
 -- the pairs ps, put into the list that stands as g among the words ws, with the words vs after
-abbrev pub PairsAs : Operation → List (Zone × Zone) → Growing → List ℤ → ℕ → List ℤ → Grown → Type 0
+abbrev pub PairsAs : Operation → List (Zone × Zone) → Growing → List ℤ → ℕ → List ℤ → Result Growing Overflow → Type 0
 PairsAs op ps = GrowsAs (map (applied op) ps) (Counted (Composed op) ps)

@@ -4,17 +4,18 @@
 // are combined are tight and inside 0..1,000,000, which meet and composition keep.
 #![tactic(auto)]
 
-ghost use Rattle.std.specs.Prelude.{◌≡◌, ◌<◌};
-ghost use Rattle.words.specs.Words.{zone_at};
+ghost use Rattle.std.specs.Prelude.{◌≡◌, ◌+◌, ◌≤◌, ◌<◌, length};
+ghost use Rattle.words.specs.Words.{zone_words, zone_at};
 ghost use Rattle.zone.specs.Zone.{Proper, Touches, compose};
 ghost use Rattle.list.specs.Slots.{slot_words, list_at, Kept};
 ghost use Rattle.pairs.specs.Pairs.{beside};
 ghost use Rattle.pairs.specs.Row.{most_pairs, Pairing, PairsAs};
-ghost use Rattle.pairs.specs.Steps.{one_more};
+ghost use Rattle.pairs.specs.Steps.{counting, CombinedAs};
 
-use growing::{Growing, Grown};
+use growing::Growing;
+use list::Overflow;
 use words::ZONE_WORDS;
-use zone::{MaybeZone, Zone};
+use zone::Zone;
 
 // The operations on pairs of zones.
 #[derive(Clone, Copy)]
@@ -23,99 +24,52 @@ pub enum Operation {
     Compose,
 }
 
-// The list with one pair more that is composed for it.
-fn count_pair(g: Growing) -> Growing
+// The list before a put of what the operation makes of a pair: with one pair more, if it is composed.
+fn count_pair(g: Growing, op: Operation) -> Growing
     requires { g.pairs < most_pairs }
-    ensures { result ≡ one_more g }
+    ensures { result ≡ counting op g }
 {
-    let latest = g.latest;
-    Growing {
-        count: g.count,
-        changed: g.changed,
-        pairs: g.pairs + 1,
-        latest,
+    match op {
+        Operation::Meet => g,
+        Operation::Compose => Growing {
+            pairs: g.pairs + 1,
+            ..g
+        },
     }
 }
 
 // The composition of two zones that have a time in common, an end of the one and a start of the other. The pair loop has no other way to
 // a composition.
-fn compose_touching(z: Zone, w: Zone) -> MaybeZone
+fn compose_touching(z: Zone, w: Zone) -> Option<Zone>
     requires { (Proper 0 1_000_000 z) × (Proper 0 1_000_000 w) × (Touches z w) }
     ensures { result ≡ compose z w }
 {
     z.compose(w)
 }
 
-// Puts the composition of the zone at `left` with each of the m zones from `right` on that it touches. The left zone is read anew for
-// each, so that no word of it is kept over a put.
-fn each_composition(
-    words: &mut [i32],
-    left: usize,
-    right: usize,
-    m: usize,
-    target: usize,
-    g: Growing,
-) -> Grown
-    requires { Pairing words.old left right m target g }
-    ensures grown { PairsAs Operation.Compose (beside (zone_at words.old left) (list_at words.old right m)) g words.old target words.new result }
-    ensures kept { Kept target slot_words words.old words.new }
+// What the operation makes of the zones at `left` and at `right`. They are read anew for each pair, so that no word of them is kept over a put.
+fn combined(words: &[i32], op: Operation, left: usize, right: usize) -> Option<Zone>
+    requires { (left + zone_words ≤ length words.now) × (right + zone_words ≤ length words.now) × (Proper 0 1_000_000 (zone_at words.now left)) × (Proper 0 1_000_000 (zone_at words.now right)) }
+    ensures { CombinedAs op (zone_at words.now left) (zone_at words.now right) result }
 {
-    let mut grown = g;
-    let mut j = 0;
-    while j < m {
-        let at = right + j * ZONE_WORDS;
-        j += 1;
-        if !touching::touches(words, left, at) {
-            continue;
+    match op {
+        Operation::Meet => {
+            let z = words::read_zone(words, left);
+            let w = words::read_zone(words, right);
+            z.meet(w)
         }
-        let z = words::read_zone(words, left);
-        let w = words::read_zone(words, at);
-        let MaybeZone::Zone(v) = compose_touching(z, w) else {
-            continue; // never: the two have a time in common
-        };
-        let mut out = [0i32; ZONE_WORDS];
-        words::write_zone(&mut out, 0, v);
-        let Grown::Grew(next) = growing::grow_words(words, target, count_pair(grown), &out) else {
-            return Grown::Overflow;
-        };
-        grown = next;
+        Operation::Compose => {
+            if !touching::touches(words, left, right) {
+                return None;
+            }
+            let z = words::read_zone(words, left);
+            let w = words::read_zone(words, right);
+            compose_touching(z, w)
+        }
     }
-    Grown::Grew(grown)
 }
 
-// Puts the meet of the zone at `left` with each of the m zones from `right` on; an empty one is passed over.
-fn each_meet(
-    words: &mut [i32],
-    left: usize,
-    right: usize,
-    m: usize,
-    target: usize,
-    g: Growing,
-) -> Grown
-    requires { Pairing words.old left right m target g }
-    ensures grown { PairsAs Operation.Meet (beside (zone_at words.old left) (list_at words.old right m)) g words.old target words.new result }
-    ensures kept { Kept target slot_words words.old words.new }
-{
-    let mut grown = g;
-    let mut j = 0;
-    while j < m {
-        let z = words::read_zone(words, left);
-        let w = words::read_zone(words, right + j * ZONE_WORDS);
-        j += 1;
-        let MaybeZone::Zone(v) = z.meet(w) else {
-            continue;
-        };
-        let mut out = [0i32; ZONE_WORDS];
-        words::write_zone(&mut out, 0, v);
-        let Grown::Grew(next) = growing::grow_words(words, target, grown, &out) else {
-            return Grown::Overflow;
-        };
-        grown = next;
-    }
-    Grown::Grew(grown)
-}
-
-// Puts the meet or the composition of the zone at `left` with each of the m zones from `right` on.
+// Puts the meet or the composition of the zone at `left` with each of the m zones from `right` on; an empty one is passed over.
 pub fn each_right(
     words: &mut [i32],
     op: Operation,
@@ -124,13 +78,19 @@ pub fn each_right(
     m: usize,
     target: usize,
     g: Growing,
-) -> Grown
+) -> Result<Growing, Overflow>
     requires { Pairing words.old left right m target g }
     ensures grown { PairsAs op (beside (zone_at words.old left) (list_at words.old right m)) g words.old target words.new result }
     ensures kept { Kept target slot_words words.old words.new }
 {
-    match op {
-        Operation::Meet => each_meet(words, left, right, m, target, g),
-        Operation::Compose => each_composition(words, left, right, m, target, g),
+    let mut grown = g;
+    for j in 0..m {
+        let Some(v) = combined(words, op, left, right + j * ZONE_WORDS) else {
+            continue;
+        };
+        let mut out = [0i32; ZONE_WORDS];
+        words::write_zone(&mut out, 0, v);
+        grown = growing::grow_words(words, target, count_pair(grown, op), &out)?;
     }
+    Ok(grown)
 }

@@ -93,8 +93,8 @@ wrong_upper_some lo (Some hi) e =
 wrong_upper_none : (lo : End) (hi : Option End) → is_wrong_upper lo hi ≡ false → WrongUpper lo hi → ⊥
 wrong_upper_none lo None e w = w
 wrong_upper_none lo (Some hi) e w =
-    let p = or_none _ _ e in
-    let q = or_none _ _ p.1 in
+    let p = or_none (ltb 1000000 (figure hi)) (ltb (figure hi) (figure lo) || cond (eqb (figure lo) (figure hi)) (opened lo || opened hi) false) e in
+    let q = or_none (ltb (figure hi) (figure lo)) (cond (eqb (figure lo) (figure hi)) (opened lo || opened hi) false) p.1 in
     ⊎_elim (λ a. omega (arith, ltb-false 1000000 (figure hi) p.0))
     (λ v. ⊎_elim (λ a. omega (arith, ltb-false (figure hi) (figure lo) q.0)) (λ a. equal_none lo hi q.1 a.0 a.1) v)
     w

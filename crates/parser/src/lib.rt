@@ -5,6 +5,9 @@
 // that join, an alternative (`|`), a conjunction (`&`) and a sequence (`.`), and the others are `factor`, `repeat` and `primary`. Each
 // reads the text from `at` on, and tells where it ends. What stands at a place of the text is read in `tokens`, a primary without
 // brackets in `leaves`, and `trees` puts the nodes together.
+//
+// Text, place and nodes are parameters and no fields of a reader behind `&mut self`: that a text keeps its bytes and a slice its length
+// follows from their types, and the contract of each method would have to say it.
 #![tactic(auto)]
 
 ghost use Rattle.std.specs.Prelude.{◌≡◌, ◌*◌, ◌≤◌, min, length};

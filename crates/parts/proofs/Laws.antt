@@ -1,4 +1,5 @@
 -- The laws of parts: a stretch of z lies in exactly one part or in w; each part is tight and inside the same ticks.
+use Rattle.std.specs.Prelude.{Option, Some}
 use mathlib.Core.Path.{◌≡◌, refl, sym, subst}
 use mathlib.Core.Logic.{◌↔◌, ◌⊎◌, inl, inr, ⊎_map, ⊎_elim}
 use mathlib.Core.List.Memᴰ.{cases_cons}
@@ -13,8 +14,6 @@ use Rattle.limit.specs.Limit.{◌≤ᴸ◌, nought, broken}
 use Rattle.limit.proofs.Order as order
 use Rattle.limit.proofs.Breaking.{within?}
 use Rattle.zone.specs.declared.Zone.{Zone}
-use Rattle.zone.specs.declared.MaybeZone.{MaybeZone}
-use Rattle.zone.specs.declared.MaybeZone.TheVariants.{Zone as zone}
 use Rattle.zone.specs.Zone.{In, InMaybe, Inside, Proper, Side, limit, opposite, Keeps, upper, lower, TightMaybe}
 use Rattle.zone.proofs.Laws.{tighten_members, tighten_tight, tight_closed}
 use Rattle.parts.specs.Parts.{sides, also, keeping, part, parts_on, parts}
@@ -47,7 +46,7 @@ module _ (w : Zone) where
   unfolding parts_on
   outside [] z x y s = absurd (not-nil s.1)
   outside (k ∷ ks) z x y s =
-      ⊎_elim (λ e. let p = (part_members z w k x y).0 (subst (λ (r : MaybeZone). InMaybe r x y) e s.2) in (p.0, λ a. p.1 a.0))
+      ⊎_elim (λ e. let p = (part_members z w k x y).0 (subst (λ (r : Option Zone). InMaybe r x y) e s.2) in (p.0, λ a. p.1 a.0))
       (λ m. let p = outside ks (keeping z w k) x y (s.0, m, s.2) in (((also_members z k (limit w k) x y).0 p.0).0, λ a. p.1 a.1))
       (cases_cons s.1)
 
@@ -75,17 +74,17 @@ module _ {from to : ℕ} where
         inside = record { inside = λ x y i. g.inside.inside x y ((also_members z k l x y).0 i).0 };
       }
 
-  part_proper : (z w : Zone) (k : Side) {p : Zone} → Ground from to z → zone p ≡ part z w k → Proper from to p
+  part_proper : (z w : Zone) (k : Side) {p : Zone} → Ground from to z → Some p ≡ part z w k → Proper from to p
   unfolding part
   part_proper z w k g e =
       let z' = also z (opposite k) (broken (limit w k)) in
       let h = also_ground z (opposite k) (broken (limit w k)) g in
       record {
         tight = subst TightMaybe (sym e) (tighten_tight z' h.after_0 h.onward);
-        inside = record { inside = λ x y i. h.inside.inside x y ((tighten_members z' x y).0 (subst (λ (r : MaybeZone). InMaybe r x y) e i)) };
+        inside = record { inside = λ x y i. h.inside.inside x y ((tighten_members z' x y).0 (subst (λ (r : Option Zone). InMaybe r x y) e i)) };
       }
 
-  on_proper : (w : Zone) (ks : List Side) {z : Zone} → Ground from to z → (p : Zone) → Memᴰ (zone p) (parts_on ks z w) → Proper from to p
+  on_proper : (w : Zone) (ks : List Side) {z : Zone} → Ground from to z → (p : Zone) → Memᴰ (Some p) (parts_on ks z w) → Proper from to p
   unfolding parts_on
   on_proper w [] g p m = absurd (not-nil m)
   on_proper w (k ∷ ks) {z} g p m = ⊎_elim (part_proper z w k g) (on_proper w ks (also_ground z k (limit w k) g) p) (cases_cons m)
@@ -126,7 +125,7 @@ module _ (z w : Zone) where
   )
 
 -- each part is tight and inside the same ticks
-pub parts_proper : {from to : ℕ} {z : Zone} (w : Zone) → Proper from to z → (p : Zone) → Memᴰ (zone p) (parts z w) → Proper from to p
+pub parts_proper : {from to : ℕ} {z : Zone} (w : Zone) → Proper from to z → (p : Zone) → Memᴰ (Some p) (parts z w) → Proper from to p
 parts_proper w h =
     let c = tight_closed.0 h.tight in
     on_proper w sides (record { after_0 = c.after_0; onward = c.onward; inside = h.inside })

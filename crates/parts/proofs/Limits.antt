@@ -1,4 +1,5 @@
 -- One limit more: what is left of a zone, and what breaks the limit.
+use Rattle.std.specs.Prelude.{Option, Some, None}
 use mathlib.Core.Path.{◌≡◌, refl, sym, ap, subst, ◌∙◌}
 use mathlib.Core.Bool.{Bool, true, false, cond}
 use mathlib.Core.Logic.Iff
@@ -16,8 +17,6 @@ use Rattle.limit.proofs.Order as order
 use Rattle.limit.proofs.Common.{within_widen, within_through, within_self}
 use Rattle.limit.proofs.Breaking.{broken_is, small_broken}
 use Rattle.zone.specs.declared.Zone.{Zone}
-use Rattle.zone.specs.declared.MaybeZone.{MaybeZone}
-use Rattle.zone.specs.declared.MaybeZone.TheVariants.{Zone as zone, Empty as empty}
 use Rattle.zone.specs.Zone.{In, InMaybe, TightMaybe, Proper, Side, on-start, on-nstart, on-end, on-nend, on-length, on-nlength, limit, opposite, Keeps, upper, lower}
 use Rattle.zone.proofs.Sharp.{on, off}
 use Rattle.zone.proofs.Laws.{tighten_members, tighten_tight, tighten_empty, tight_closed, ranged}
@@ -160,7 +159,7 @@ room_means z k {r = false} e = λ x y i.
     subst T (sym e) (within_self u (within_through (limit z k) (limit z (opposite k)) u (lower origin k x y) u (on i k) (off i k))).le
 
 -- what has no stretch has no parts
-pub none_part : (z w : Zone) (ks : List Side) → Cuttable z → Proper 0 most_ticks w → ((x y : Time) → ¬ In z x y) → (r : MaybeZone) → Memᴰ r (parts_on ks z w) → r ≡ empty
+pub none_part : (z w : Zone) (ks : List Side) → Cuttable z → Proper 0 most_ticks w → ((x y : Time) → ¬ In z x y) → (r : Option Zone) → Memᴰ r (parts_on ks z w) → r ≡ None
 unfolding parts_on part
 none_part z w [] c p n r m = absurd (not-nil m)
 none_part z w (k ∷ ks) c p n r m =
@@ -171,25 +170,25 @@ none_part z w (k ∷ ks) c p n r m =
 -- ---- what the functions mean
 
 module _ (z w : Zone) (k : Side) where
-  pub part_breaks : Cuttable z → Proper 0 most_ticks w → {r : MaybeZone} → r ≡ part z w k → Breaks z w k r
+  pub part_breaks : Cuttable z → Proper 0 most_ticks w → {r : Option Zone} → r ≡ part z w k → Breaks z w k r
   unfolding part
   part_breaks c p e =
       let d = also_cuttable z (opposite k) (broken (limit w k)) c (broken_small p k) in
       subst (Breaks z w k) (sym e) (record { members = part_members z w k; tight = tighten_tight _ d.after_0 d.onward })
 
   -- it can be listed
-  pub part_listed : Cuttable z → {r : MaybeZone} → Breaks z w k r → {p : Zone} → r ≡ zone p → Proper 0 most_ticks p
+  pub part_listed : Cuttable z → {r : Option Zone} → Breaks z w k r → {p : Zone} → r ≡ Some p → Proper 0 most_ticks p
   part_listed c b e =
       record {
         tight = subst TightMaybe e b.tight;
-        inside = record { inside = λ x y i. c.inside.inside x y ((b.members x y).0 (subst (λ (r : MaybeZone). InMaybe r x y) (sym e) i)).0 };
+        inside = record { inside = λ x y i. c.inside.inside x y ((b.members x y).0 (subst (λ (r : Option Zone). InMaybe r x y) (sym e) i)).0 };
       }
 
   pub keeping_keeps : Cuttable z → Proper 0 most_ticks w → {r : Zone} → r ≡ keeping z w k → KeepsTo z w k r
   keeping_keeps c p e = subst (KeepsTo z w k) (sym e) (record { members = also_members z k (limit w k); cuttable = also_cuttable z k (limit w k) c (small_limit p k) })
 
   -- a zone that keeps to the limit has no part that breaks it
-  pub part_none : Cuttable z → Proper 0 most_ticks w → limit z k ≤ᴸ limit w k → part z w k ≡ empty
+  pub part_none : Cuttable z → Proper 0 most_ticks w → limit z k ≤ᴸ limit w k → part z w k ≡ None
   unfolding part
   part_none c p h =
       let d = also_cuttable z (opposite k) (broken (limit w k)) c (broken_small p k) in

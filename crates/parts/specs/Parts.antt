@@ -1,10 +1,9 @@
 -- The parts of a zone outside another, limit by limit.
-use Rattle.std.specs.Prelude.{Bool, true, false, cond, ◌↔◌, List, [], ◌∷◌, ℕ, eqb, get_or}
+use Rattle.std.specs.Prelude.{Bool, true, false, cond, ◌↔◌, List, [], ◌∷◌, ℕ, eqb, get_or, Option}
 use Rattle.limit.specs.Time.{Time}
 use Rattle.limit.specs.declared.Limit.{Limit}
 use Rattle.limit.specs.Limit.{at_most, ◌≤ᴸ◌, ◌⊕◌, nought, lesser, broken, most_ticks}
 use Rattle.zone.specs.declared.Zone.{Zone}
-use Rattle.zone.specs.declared.MaybeZone.{MaybeZone}
 use Rattle.zone.specs.Zone.{In, InMaybe, Inside, TightMaybe, Side, on-start, on-nstart, on-end, on-nend, on-length, on-nlength, limit, opposite, Keeps, tighten, Ranged}
 
 -- "document 01's order of limits"
@@ -44,15 +43,15 @@ abbrev pub keeping : Zone → Zone → Side → Zone
 keeping z w k = also z k (limit w k)
 
 -- those that break it: they keep to the broken limit on the opposite side
-unfoldable pub part : Zone → Zone → Side → MaybeZone
+unfoldable pub part : Zone → Zone → Side → Option Zone
 part z w k = tighten (also z (opposite k) (broken (limit w k)))
 
 -- "its parts that break the operand's limit one, then limit two keeping one, and so to limit six": of z, where w is the operand's zone
-unfoldable pub parts_on : List Side → Zone → Zone → List MaybeZone
+unfoldable pub parts_on : List Side → Zone → Zone → List (Option Zone)
 parts_on [] z w = []
 parts_on (k ∷ ks) z w = part z w k ∷ parts_on ks (keeping z w k) w
 
-abbrev pub parts : Zone → Zone → List MaybeZone
+abbrev pub parts : Zone → Zone → List (Option Zone)
 parts = parts_on sides
 
 -- the limit on side k and the one on the negated quantity leave room between them
@@ -69,7 +68,7 @@ pub record Cuttable (z : Zone) : Type 0 where
   pub ranged : Ranged most_ticks z
 
 -- the answer for the part of z that breaks w's limit on side k
-pub record Breaks (z w : Zone) (k : Side) (r : MaybeZone) : Type 0 where
+pub record Breaks (z w : Zone) (k : Side) (r : Option Zone) : Type 0 where
   pub members : (x y : Time) → InMaybe r x y ↔ (In z x y × ¬ Keeps k (limit w k) x y)
   pub tight : TightMaybe r
 

@@ -12,7 +12,7 @@ ghost use Rattle.parts.specs.Parts.{side, place, also, keeping, part, room, Cutt
 
 use limit::Limit;
 use words::ZONE_WORDS;
-use zone::{MaybeZone, Zone};
+use zone::Zone;
 
 // The place of the limit on the negated quantity.
 fn beside(k: usize) -> usize
@@ -47,14 +47,14 @@ fn also(zone: &[i32; ZONE_WORDS], k: usize, word: i32) -> Zone
     }
 }
 
-// The part of the zone `rest` that breaks limit k of the zone `cut`; Empty where all of `rest` keeps to it.
-pub fn part(rest: &[i32; ZONE_WORDS], cut: &[i32; ZONE_WORDS], k: usize) -> MaybeZone
+// The part of the zone `rest` that breaks limit k of the zone `cut`; None where all of `rest` keeps to it.
+pub fn part(rest: &[i32; ZONE_WORDS], cut: &[i32; ZONE_WORDS], k: usize) -> Option<Zone>
     requires { (k < 6) × (Cuttable (zone_at rest.now 0)) × (Proper 0 1_000_000 (zone_at cut.now 0)) }
     ensures value { result ≡ part (zone_at rest.now 0) (zone_at cut.now 0) (side k) }
     ensures meaning { Breaks (zone_at rest.now 0) (zone_at cut.now 0) (side k) result }
 {
     if rest[k] <= cut[k] {
-        return MaybeZone::Empty;
+        return None;
     }
     also(rest, beside(k), limit::broken(cut[k])).tighten()
 }

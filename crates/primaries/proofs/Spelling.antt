@@ -1,4 +1,5 @@
 -- The list of a letter with its sign, put together run by run.
+use Rattle.std.specs.Prelude.{Option, Some, None}
 use mathlib.Core.Path.{◌≡◌, refl, sym, ap, subst, ◌∙◌}
 use mathlib.Core.Bool.{Bool, true, false, cond}
 use mathlib.Core.List.{List, [], ◌∷◌, ◌++◌, map, map-append}
@@ -8,8 +9,6 @@ use lib.Dec.{ltb}
 use lib.IntN.{ℤ}
 use lib.ListN.{length}
 use Rattle.zone.specs.declared.Zone.{Zone}
-use Rattle.zone.specs.declared.MaybeZone.{MaybeZone}
-use Rattle.zone.specs.declared.MaybeZone.TheVariants.{Zone as zone, Empty as empty}
 use Rattle.zone.specs.Zone.{Ranged, diagonal}
 use Rattle.zone.proofs.Laws.{proper_run, proper_diagonal, ranged, ranged_more}
 use Rattle.list.specs.Insert as puts
@@ -79,23 +78,23 @@ module _ (bytes : List ℕ) (channel : ℕ) (level : Level) (mark : Mark) (from 
       -- the marks of more runs
       on : (zs : List Run) → insert_each (map (mark_of mark to) (s.runs ++ zs)) [] ≡ insert_each (map (mark_of mark to) zs) (list_at ws base g.count)
       on zs =
-          ap (λ (ms : List MaybeZone). insert_each ms []) (map-append (mark_of mark to) s.runs zs)
+          ap (λ (ms : List (Option Zone)). insert_each ms []) (map-append (mark_of mark to) s.runs zs)
           ∙ insert_each_append (map (mark_of mark to) s.runs) (map (mark_of mark to) zs) []
           ∙ ap (λ (b : Built). then b (insert_each (map (mark_of mark to) zs))) s.built
 
       -- the next run
-      module _ {m : MaybeZone} (is : m ≡ mark_of mark to x) where
+      module _ {m : Option Zone} (is : m ≡ mark_of mark to x) where
         more : insert_each (map (mark_of mark to) (s.runs ++ (x ∷ []))) [] ≡ insert_each (m ∷ []) (list_at ws base g.count)
-        more = on (x ∷ []) ∙ ap (λ (k : MaybeZone). insert_each (k ∷ []) (list_at ws base g.count)) (sym is)
+        more = on (x ∷ []) ∙ ap (λ (k : Option Zone). insert_each (k ∷ []) (list_at ws base g.count)) (sym is)
 
         -- without a mark it is passed over
-        pub spelt_skip : m ≡ empty → Spelt onward base ws₀ ws g
+        pub spelt_skip : m ≡ None → Spelt onward base ws₀ ws g
         unfolding insert_each
         spelt_skip e =
             record {
               runs = s.runs ++ (x ∷ []);
               taken = taken_more bytes channel level from to cursor onward s.taken n;
-              built = more ∙ ap (λ (k : MaybeZone). insert_each (k ∷ []) (list_at ws base g.count)) e;
+              built = more ∙ ap (λ (k : Option Zone). insert_each (k ∷ []) (list_at ws base g.count)) e;
               stands = s.stands;
               frame = s.frame;
             }
@@ -122,7 +121,7 @@ module _ (bytes : List ℕ) (channel : ℕ) (level : Level) (mark : Mark) (from 
               built =
                   ap ended
                   (sym
-                  (ap (λ (ms : List MaybeZone). insert_each ms []) (map-append (mark_of mark to) (s.runs ++ (x ∷ [])) rest.0)
+                  (ap (λ (ms : List (Option Zone)). insert_each ms []) (map-append (mark_of mark to) (s.runs ++ (x ∷ [])) rest.0)
                   ∙ insert_each_append (map (mark_of mark to) (s.runs ++ (x ∷ []))) (map (mark_of mark to) rest.0) []
                   ∙ ap (λ (b : Built). then b (insert_each (map (mark_of mark to) rest.0))) (more ∙ e)));
             }
@@ -131,20 +130,20 @@ module _ (bytes : List ℕ) (channel : ℕ) (level : Level) (mark : Mark) (from 
         spelt_over told e = record { overflowing = record { opened = 0; done = 0; means = spelling_over e; within = omega arith }; spends = omega arith }
 
 -- a mark that words have room for
-abbrev Small : MaybeZone → Type 0
-Small (zone z) = Ranged 1_000_000 z
-Small empty = Unit {0}
+abbrev Small : Option Zone → Type 0
+Small (Some z) = Ranged 1_000_000 z
+Small None = Unit {0}
 
 mark_small : {P : ℕ → Type 0} {at to : ℕ} (mark : Mark) (x : Run) → FirstRun P at to x.start x.end → to ≤ 1_000_000 → Small (mark_of mark to x)
 mark_small Inside x f h = ranged_more h (ranged (proper_run {from = 0} x.start x.end (omega arith) f.some f.upper))
 mark_small {to = to} End x f h = go (ltb x.end to)
   where
-    go : (t : Bool) → Small (cond t (zone (diagonal x.end x.end)) empty)
+    go : (t : Bool) → Small (cond t (Some (diagonal x.end x.end)) None)
     go true = ranged_more {n = x.end} (omega (arith, f.upper)) (ranged (proper_diagonal x.end x.end (omega arith)))
     go false = tt
 
 pub mark_ranged : {P : ℕ → Type 0} {at to : ℕ} (mark : Mark) (x : Run) → FirstRun P at to x.start x.end → to ≤ 1_000_000
-    → {m : MaybeZone} {z : Zone} → m ≡ mark_of mark to x → m ≡ zone z → Ranged 1_000_000 z
+    → {m : Option Zone} {z : Zone} → m ≡ mark_of mark to x → m ≡ Some z → Ranged 1_000_000 z
 mark_ranged mark x f h is e = subst Small (sym is ∙ e) (mark_small mark x f h)
 
 -- ---- what it comes to
@@ -159,7 +158,7 @@ ends_built to [] L = refl
 ends_built to (r ∷ rs) L = go (λ M. ends_built to rs M) (ltb r.end to)
   where
     go : ((M : List Zone) → insert_each (map (mark_of End to) rs) M ≡ insert_each (moment_zones (ends_before to rs)) M) → (t : Bool)
-        → insert_each (cond t (zone (diagonal r.end r.end)) empty ∷ map (mark_of End to) rs) L
+        → insert_each (cond t (Some (diagonal r.end r.end)) None ∷ map (mark_of End to) rs) L
         ≡ insert_each (moment_zones (cond t (r.end ∷ ends_before to rs) (ends_before to rs))) L
     go rest true = λ i. after (insert (diagonal r.end r.end) L) L (λ M. rest M i)
     go rest false = rest L

@@ -3,9 +3,8 @@
 // The crate `meaning` says which list each has; `purse` how a slot holds it. None has a round: those told are left.
 #![tactic(auto)]
 
-ghost use Rattle.std.specs.Prelude.{◌≡◌, [], ◌∷◌, ◌+◌, ◌-◌, ◌≤◌, ◌<◌, min, length};
+ghost use Rattle.std.specs.Prelude.{◌≡◌, [], ◌∷◌, ◌+◌, ◌-◌, ◌≤◌, ◌<◌, min, length, Some};
 ghost use Rattle.limit.specs.Limit.{most_ticks};
-ghost use Rattle.zone.specs.declared.MaybeZone.TheVariants.{Zone as zone};
 ghost use Rattle.zone.specs.Zone.{diagonal};
 ghost use Rattle.list.specs.Insert.{insert_each};
 ghost use Rattle.list.specs.Slots.{slot_words, Kept};
@@ -24,7 +23,7 @@ use purse::Evaluated;
 use recording::Recording;
 use runs::{Cursor, Level, Run};
 use words::ZONE_WORDS;
-use zone::{MaybeZone, Zone};
+use zone::Zone;
 
 // The ticks from..to of a recording that was read: where a drill is evaluated.
 #[derive(Clone, Copy)]
@@ -70,7 +69,7 @@ impl<'a> Window<'a> {
 // `_`: the diagonal of ticks from..to, in the slot at `base`.
 pub fn point(work: &mut [i32], base: usize, from: u32, to: u32, told: u64) -> Evaluated
     requires { (Ticks from to) × (base + slot_words ≤ length work.old) }
-    ensures value { EvaluatedAs (λ v. v ≡ ended (insert_each (zone (diagonal from to) ∷ []) [])) told work.new base result }
+    ensures value { EvaluatedAs (λ v. v ≡ ended (insert_each (Some (diagonal from to) ∷ []) [])) told work.new base result }
     ensures kept { Kept base slot_words work.old work.new }
 {
     let Grown::Grew(g) = growing::grow(work, base, growing::nothing(), Zone::diagonal(from, to))
@@ -93,17 +92,17 @@ enum Mark {
 }
 
 // The zone of a run that was looked for up to tick `to`; one that lasts up to there has no end.
-fn mark_of(mark: Mark, run: Run, to: u32) -> MaybeZone
+fn mark_of(mark: Mark, run: Run, to: u32) -> Option<Zone>
     requires { (run.start ≤ most_ticks) × (run.end ≤ most_ticks) }
     ensures { result ≡ mark_of mark to run }
 {
     match mark {
-        Mark::Inside => MaybeZone::Zone(Zone::run(run.start, run.end)),
+        Mark::Inside => Some(Zone::run(run.start, run.end)),
         Mark::End => {
             if run.end < to {
-                MaybeZone::Zone(Zone::diagonal(run.end, run.end))
+                Some(Zone::diagonal(run.end, run.end))
             } else {
-                MaybeZone::Empty
+                None
             }
         }
     }
@@ -134,7 +133,7 @@ fn spell(
         cursor,
     ) {
         cursor = onward;
-        let MaybeZone::Zone(z) = mark_of(mark, run, window.to) else {
+        let Some(z) = mark_of(mark, run, window.to) else {
             continue;
         };
         let mut out = [0i32; ZONE_WORDS];

@@ -1,4 +1,5 @@
 -- Blocks of right zones: what the hull of one says of its zones, and a turn of the loop over blocks.
+use Rattle.std.specs.Prelude.{None}
 use mathlib.Core.Path.{◌≡◌, sym, ap, subst, ◌∙◌}
 use mathlib.Core.Bool.{Bool, true, false}
 use mathlib.Core.Logic.{◌↔◌}
@@ -12,7 +13,6 @@ use lib.ListN.{length-map}
 use Rattle.limit.specs.declared.Limit.{Limit}
 use Rattle.limit.specs.Limit.{decode}
 use Rattle.zone.specs.declared.Zone.{Zone}
-use Rattle.zone.specs.declared.MaybeZone.TheVariants.{Empty as empty}
 use Rattle.zone.specs.Zone.{Proper}
 use Rattle.words.specs.Words.{word, zone_at}
 use Rattle.touching.specs.Sharing.{Share}
@@ -45,7 +45,7 @@ nupper Meet z = z.nstart
 nupper Compose z = z.nend
 
 missed : (op : Operation) {z : Zone} → Proper 0 1_000_000 z → (s ns : ℤ) → ¬ Share (upper op z) (nupper op z) (decode s) (decode ns)
-    → (w : Zone) → Proper 0 1_000_000 w → Under s ns w → (apply op z w ≡ empty) × (¬ Composed op (z, w))
+    → (w : Zone) → Proper 0 1_000_000 w → Under s ns w → (apply op z w ≡ None) × (¬ Composed op (z, w))
 missed Meet {z} p s ns n w q u = (meet_apart z w (λ h. n (share_more u.start u.nstart h)), λ f. f)
 missed Compose {z} p s ns n w q u =
     let apart : ¬ Abut z w = λ h. n (share_more u.start u.nstart h) in
@@ -109,5 +109,5 @@ module _ {ws₀ : List ℤ} {left right m target : ℕ} {g₀ : Growing} (p : Pa
           combining_past at_hand (from_block (b + 1)) ahead
           (λ q i. let y = Memᴰ.of_map (λ (y : Zone). (zone_at ws left, y)) (block ws right m b) i in
           let there = subst (Memᴰ y.0) same_block y.1 in
-          subst (λ (x : Zone × Zone). (applied op x ≡ empty) × (¬ Composed op x)) y.2
+          subst (λ (x : Zone × Zone). (applied op x ≡ None) × (¬ Composed op x)) y.2
           (r.1 y.0 ((zones_block p.others b l).sound y.0 there) (h.cover r.0 b l y.0 there)))

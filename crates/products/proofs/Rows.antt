@@ -1,4 +1,5 @@
 -- A turn of the loop over left zones: the zone at hand with all right ones.
+use Rattle.std.specs.Prelude.{Option}
 use mathlib.Core.Path.{◌≡◌, sym, ap, subst, ◌∙◌}
 use mathlib.Core.List.{List, [], ◌∷◌, ◌++◌, map}
 use Prim.Native.Nat.{ℕ, ◌+◌, ◌-◌, ◌*◌, ◌≤◌, ◌<◌}
@@ -7,7 +8,6 @@ use lib.IntN.{ℤ}
 use lib.ListN.{length, length-append, length-map}
 use Rattle.zone.specs.declared.Zone.{Zone}
 use Rattle.words.specs.Words.{zone_at}
-use Rattle.zone.specs.declared.MaybeZone.{MaybeZone}
 use Rattle.list.specs.Insert.{Built, overflow, insert_each}
 use Rattle.list.specs.Slots.{list_at, Kept}
 use Rattle.list.proofs.Slots.{list_at_length, list_at_next, list_at_kept}
@@ -50,7 +50,7 @@ module _ {ws₀ : List ℤ} {left n right m target count : ℕ} (o : Operands ws
 
   -- what is put for all of them
   put_as : (op : Operation) (g₀ : Growing) → insert_each (map (applied op) all_rows) (list_at ws₀ target g₀.count) ≡ insert_each (pairs op (list_at ws₀ left n) (list_at ws₀ right m)) (list_at ws₀ target g₀.count)
-  put_as op g₀ = ap (λ (rs : List MaybeZone). insert_each rs (list_at ws₀ target g₀.count)) (crossed_applied op (list_at ws₀ left n) (list_at ws₀ right m))
+  put_as op g₀ = ap (λ (rs : List (Option Zone)). insert_each rs (list_at ws₀ target g₀.count)) (crossed_applied op (list_at ws₀ left n) (list_at ws₀ right m))
 
   pub rows_end : {op : Operation} {g₀ g : Growing} {ws : List ℤ} (i : ℕ) → n ≤ i → Combining op (from_row i) all_rows g₀ target ws₀ ws g
       → Growth (insert_each (pairs op (list_at ws₀ left n) (list_at ws₀ right m)) (list_at ws₀ target g₀.count)) (Counted (Composed op) all_rows) g₀ (list_at ws₀ target g₀.count) ws target g

@@ -17,8 +17,9 @@ ghost use Rattle.pairs.specs.Operands.{Operands};
 ghost use Rattle.pairs.specs.Row.{Pairing, PairsAs};
 ghost use Rattle.products.specs.Steps.{ReachesAs};
 
-use growing::{Growing, Grown};
+use growing::Growing;
 use hulls::{BLOCK, HULL_WORDS};
+use list::Overflow;
 use pairs::Operation;
 use words::{END, START, ZONE_WORDS};
 
@@ -47,27 +48,21 @@ fn each_block(
     hulls: &[i32],
     target: usize,
     g: Growing,
-) -> Grown
+) -> Result<Growing, Overflow>
     requires { (Pairing words.old left right m target g) × (Hulls hulls.now words.old right m) × (length hulls.now ≡ hull_words) × (m ≤ capacity) }
     ensures grown { PairsAs op (beside (zone_at words.old left) (list_at words.old right m)) g words.old target words.new result }
     ensures kept { Kept target slot_words words.old words.new }
 {
     let mut grown = g;
-    let mut b = 0;
-    while b * BLOCK < m {
-        let at = right + b * BLOCK * ZONE_WORDS;
-        let k = hulls::block_size(m - b * BLOCK);
-        let reached = reaches(words, op, left, m, hulls, b);
-        b += 1;
-        if !reached {
+    for b in 0..m.div_ceil(BLOCK) {
+        if !reaches(words, op, left, m, hulls, b) {
             continue;
         }
-        let Grown::Grew(next) = pairs::each_right(words, op, left, at, k, target, grown) else {
-            return Grown::Overflow;
-        };
-        grown = next;
+        let at = right + b * BLOCK * ZONE_WORDS;
+        let k = hulls::block_size(m - b * BLOCK);
+        grown = pairs::each_right(words, op, left, at, k, target, grown)?;
     }
-    Grown::Grew(grown)
+    Ok(grown)
 }
 
 // Puts the meet or the composition of each of n left zones with each of m right zones, in that order, and counts the pairs composed.
@@ -80,7 +75,7 @@ pub fn each_pair(
     m: usize,
     target: usize,
     g: Growing,
-) -> Grown
+) -> Result<Growing, Overflow>
     requires { (Operands words.old left n right m target g.count) × (Stands words.old target g) × (g.pairs ≡ 0) }
     ensures grown { GrowsAs (pairs op (list_at words.old left n) (list_at words.old right m)) (Counted (Composed op) (crossed (list_at words.old left n) (list_at words.old right m))) g words.old target words.new result }
     ensures kept { Kept target slot_words words.old words.new }
@@ -88,22 +83,9 @@ pub fn each_pair(
     let mut hulls = [0i32; HULL_WORDS];
     hulls::write_hulls(words, right, m, &mut hulls);
     let mut grown = g;
-    let mut i = 0;
-    while i < n {
-        let Grown::Grew(next) = each_block(
-            words,
-            op,
-            left + i * ZONE_WORDS,
-            right,
-            m,
-            &hulls,
-            target,
-            grown,
-        ) else {
-            return Grown::Overflow;
-        };
-        grown = next;
-        i += 1;
+    for i in 0..n {
+        let at = left + i * ZONE_WORDS;
+        grown = each_block(words, op, at, right, m, &hulls, target, grown)?;
     }
-    Grown::Grew(grown)
+    Ok(grown)
 }

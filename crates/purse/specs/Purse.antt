@@ -1,9 +1,10 @@
 -- A value and the rounds told: "a drill that would start a round beyond them is stopped", "if 10 didn't come before".
-use Rattle.std.specs.Prelude.{◌≡◌, List, ℕ, ◌+◌, ◌-◌, ◌≤◌, ◌<◌, ℤ}
+use Rattle.std.specs.Prelude.{◌≡◌, List, ℕ, ◌+◌, ◌-◌, ◌≤◌, ◌<◌, ℤ, Result, Ok, Err}
 use Rattle.zone.specs.declared.Zone.{Zone}
 use Rattle.list.specs.Slots.{Holds}
-use Rattle.purse.specs.declared.Evaluated.{Evaluated}
-use Rattle.purse.specs.declared.Evaluated.TheVariants.{Listed, Overflow, Spent}
+use Rattle.purse.specs.declared.Listed.{Listed}
+use Rattle.purse.specs.declared.Stopped.{Stopped}
+use Rattle.purse.specs.declared.Stopped.TheVariants.{Overflow, Spent}
 use Rattle.purse.specs.Value.{Value, value, overflow, begun, spent}
 
 -- the slot at `base` holds the list of a value that `comes` allows, whose rounds are spent; its words behind the list are free
@@ -41,7 +42,7 @@ pub record Spending (comes : Value → Type 0) (told left : ℕ) : Type 0 where
 -- what was answered. After a list the words behind it and the slots after it are free, and where there is none all slots that were lent: no
 -- promise says what these words hold. Of them `Kept`, of each contract, says that there are as many as before, and that every other word is
 -- as it was
-abbrev pub EvaluatedAs : (Value → Type 0) → ℕ → List ℤ → ℕ → Evaluated → Type 0
-EvaluatedAs comes told ws base (Listed count left) = Standing comes told ws base count left
-EvaluatedAs comes told ws base (Overflow left) = Overflowed comes told left
-EvaluatedAs comes told ws base Spent = Exceeding comes told
+abbrev pub EvaluatedAs : (Value → Type 0) → ℕ → List ℤ → ℕ → Result Listed Stopped → Type 0
+EvaluatedAs comes told ws base (Ok l) = Standing comes told ws base l.count l.left
+EvaluatedAs comes told ws base (Err (Overflow left)) = Overflowed comes told left
+EvaluatedAs comes told ws base (Err Spent) = Exceeding comes told

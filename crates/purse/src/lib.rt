@@ -4,10 +4,16 @@
 // the rounds told. A purse is compared with the rounds begun, and is no part of what they come to.
 #![tactic(auto)]
 
-// A list with its count, or that one would have 129 zones, each with the rounds left; or that a round would be begun beyond those told.
+// A list with its count, and the rounds left.
 #[derive(Clone, Copy)]
-pub enum Evaluated {
-    Listed { count: usize, left: u64 },
+pub struct Listed {
+    pub count: usize,
+    pub left: u64,
+}
+
+// Why there is none: one would have 129 zones, with the rounds left; or a round would be begun beyond those told.
+#[derive(Clone, Copy)]
+pub enum Stopped {
     Overflow { left: u64 },
     Spent,
 }

@@ -37,10 +37,7 @@ fn level_in(word: u32, channel: u8) -> Level
     requires { word < 65536 }
     ensures { result ≡ level_in word channel }
 {
-    if 16 <= channel {
-        return Level::Low;
-    }
-    if (word >> channel) % 2 == 1 {
+    if channel < 16 && (word >> channel) % 2 == 1 {
         Level::High
     } else {
         Level::Low
@@ -67,7 +64,7 @@ fn reaches(recording: &Recording<'_>, from: u32, to: u32, i: usize) -> bool
 
 // The first change from j on that gives ticks of from..to the level, or another one where it is not wanted.
 fn seek(
-    recording: &Recording<'_>,
+    recording: Recording<'_>, // itself, so that the loop has its fields at hand
     channel: u8,
     level: Level,
     from: u32,
@@ -75,13 +72,13 @@ fn seek(
     j: usize,
     wanted: bool, // no step to choose: what `leaves_at` has to answer
 ) -> usize
-    requires { to ≤ ticksOf recording.now.bytes.now }
-    ensures { Sought recording.now.bytes.now channel level from to j wanted result }
+    requires { to ≤ ticksOf recording.bytes.now }
+    ensures { Sought recording.entry.bytes.now channel level from to j wanted result }
 {
     let end = recording.size.changes + 1;
     for i in j..end {
         // Most changes are of other channels, and a tick takes divisions.
-        if leaves_at(recording, channel, level, i) == wanted && reaches(recording, from, to, i) {
+        if leaves_at(&recording, channel, level, i) == wanted && reaches(&recording, from, to, i) {
             return i;
         }
     }
@@ -101,12 +98,12 @@ pub fn next_run(
     ensures { NextRun recording.now.bytes.now channel level from to cursor result }
 {
     let end = to.min(recording.size.ticks);
-    let first = seek(recording, channel, level, from, end, cursor.change, true);
+    let first = seek(*recording, channel, level, from, end, cursor.change, true);
     let a = recording.begins(first);
     if end <= a {
         return None;
     }
-    let past = seek(recording, channel, level, from, end, first + 1, false);
+    let past = seek(*recording, channel, level, from, end, first + 1, false);
     let run = Run {
         start: from.max(a),
         end: end.min(recording.begins(past)),

@@ -1,6 +1,7 @@
 -- The rounds of a star end: n inner zones of ticks from..to make at most n + (to − from) rounds, the last included. If the round after k
 -- changes something, some composition q of k + 2 inner zones lies inside no shorter one. Along q each inner zone that comes again later
 -- makes the composition longer by a tick or more, and each other one is the last of its kind.
+use Rattle.std.specs.Prelude.{Some}
 use mathlib.Core.Path.{◌≡◌, refl, sym, ap, subst, ◌∙◌}
 use mathlib.Core.Logic.{◌⊎◌, inl, inr, ⊎_map, ⊎_elim}
 use mathlib.Core.List.Memᴰ
@@ -14,7 +15,6 @@ use native.Mathlib.Decide.{dec_le}
 use lib.Dec.{T}
 use lib.ListN.{length}
 use Rattle.zone.specs.declared.Zone.{Zone}
-use Rattle.zone.specs.declared.MaybeZone.TheVariants.{Zone as zone}
 use Rattle.zone.specs.Zone.{contains, compose, Tight}
 use Rattle.zone.proofs.Lengths.{Extends, span}
 use Rattle.zone.proofs.Laws.{compose_mono, extends_refl, extends_step, span_longer, span_some, span_adds, span_bound, same_zone?}
@@ -53,7 +53,7 @@ among? w (a ∷ K) = go (same_zone? w a) (among? w K)
 -- q is v composed, from the left, with r more inner zones
 data Leads (inner : List Zone) (q : Zone) : ℕ → Zone → Type 0 where
   done : {v : Zone} → v ≡ q → Leads inner q 0 v
-  next : {r : ℕ} {v w x : Zone} → Memᴰ w inner → compose v w ≡ zone x → Leads inner q r x → Leads inner q (suc r) v
+  next : {r : ℕ} {v w x : Zone} → Memᴰ w inner → compose v w ≡ Some x → Leads inner q r x → Leads inner q (suc r) v
 
 -- on the way to q, a composition of m inner zones, w comes once more after p, which is r zones before q: the composition u there begins
 -- with p, w makes it v, and q is s zones on
@@ -64,7 +64,7 @@ record Again (inner : List Zone) (m : ℕ) (q : Zone) (r : ℕ) (p w : Zone) : T
   s : ℕ
   prefix : Composed inner j u
   begins : Extends p u
-  gives : compose u w ≡ zone v
+  gives : compose u w ≡ Some v
   leads : Leads inner q s v
   whole : suc (j + s) ≡ m
   later : s < r
@@ -90,7 +90,7 @@ module _ {from to : ℕ} {inner : List Zone} (proper : AllProper from to inner) 
     apart : {i j r : ℕ} {x v : Zone} → Composed inner i x → Composed inner j v → Leads inner q r v → i + r < m → ¬ T (contains x v)
     apart o g t h n = let b = leads_within o g n t in least b.0 b.1 b.2 (let f = b.4 in omega arith) b.3
 
-    again_next : {r : ℕ} {p w x k : Zone} → Tight p → Tight w → compose p w ≡ zone x → Again inner m q r x k → Again inner m q (suc r) p k
+    again_next : {r : ℕ} {p w x k : Zone} → Tight p → Tight w → compose p w ≡ Some x → Again inner m q r x k → Again inner m q (suc r) p k
     again_next gp gw e a = record { u = a.u; v = a.v; j = a.j; s = a.s; prefix = a.prefix; begins = extends_step gp gw e a.begins; gives = a.gives; leads = a.leads; whole = a.whole; later = omega arith }
 
     -- K: the zones that come after p. R: the inner zones that may come in p alone
@@ -197,10 +197,10 @@ module _ {from to : ℕ} {inner : List Zone} (proper : AllProper from to inner) 
     pub star_exists : (diagonal : Zone) → (v : Value) × Star inner diagonal v
     star_exists diagonal = go rounds_exist.0 rounds_exist.1
       where
-        put : {r : ℕ} {F : List Zone} → Rounds inner inner (value F r) → (b : Built) → insert_each (zone diagonal ∷ []) F ≡ b → (v : Value) × Star inner diagonal v
+        put : {r : ℕ} {F : List Zone} → Rounds inner inner (value F r) → (b : Built) → insert_each (Some diagonal ∷ []) F ≡ b → (v : Value) × Star inner diagonal v
         put {r} t (listed G) e = (value G r, closed t e)
         put {r} t puts.overflow e = (overflow r r, diagonal_overflows t e)
 
         go : (v : Value) → Rounds inner inner v → (v : Value) × Star inner diagonal v
-        go (value F r) t = put t (insert_each (zone diagonal ∷ []) F) refl
+        go (value F r) t = put t (insert_each (Some diagonal ∷ []) F) refl
         go (overflow b f) t = (overflow b f, round_overflows t)

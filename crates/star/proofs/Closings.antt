@@ -1,4 +1,5 @@
 -- What the loops have put together, as the answers of a round and of a star.
+use Rattle.std.specs.Prelude.{Some, Err}
 use mathlib.Core.Path.{◌≡◌, refl, sym, ap, subst, ◌∙◌}
 use mathlib.Core.Logic.{◌⊎◌, inl, inr}
 use mathlib.Core.List.{List, [], ◌∷◌}
@@ -6,20 +7,21 @@ use Prim.Native.Nat.{ℕ, ◌+◌, ◌*◌, ◌≤◌, ◌<◌}
 use native.Mathlib.Omega.{arith}
 use lib.IntN.{ℤ}
 use Rattle.zone.specs.declared.Zone.{Zone}
-use Rattle.zone.specs.declared.MaybeZone.TheVariants.{Zone as zone}
 use Rattle.list.specs.Insert as puts
 use Rattle.list.specs.Insert.{Built, listed, insert_each}
 use Rattle.pairs.specs.declared.Operation.TheVariants.{Compose}
 use Rattle.pairs.specs.Counted.{Counted}
 use Rattle.pairs.specs.Pairs.{pairs, Touching, crossed}
-use Rattle.purse.specs.Purse.{Standing, Overflowed, Exceeding}
+use Rattle.purse.specs.declared.Stopped.{Stopped}
+use Rattle.purse.specs.declared.Stopped.TheVariants.{Overflow, Spent}
+use Rattle.purse.specs.Purse.{Standing, Overflowed, Exceeding, EvaluatedAs}
 use Rattle.star.specs.Star.{Value, value, overflow, begun, Rounds, Star, closed, diagonal_overflows, round_overflows, round}
 use Rattle.list.specs.Slots.{list_at, Free, Sound, Kept, Copied, Disjoint}
 use Rattle.pairs.specs.Operands.{Operands}
 use Rattle.operators.specs.Listing.{Workspace, Listing}
 use Rattle.growing.specs.declared.Growing.{Growing}
 use Rattle.growing.specs.Growth.{Alters, Unsurpassed, Stands, Begins, Growth}
-use Rattle.star.specs.Steps.{Changes, Ending}
+use Rattle.star.specs.Steps.{Changes, Ending, EndsAs}
 use Rattle.list.proofs.Slots.{list_at_copied, list_there, still_source, still_slot}
 use Rattle.growing.proofs.Loops.{alters_changed}
 use Rattle.growing.proofs.Going.{standing_stands, begun_pairs}
@@ -115,48 +117,58 @@ module _ (diag : Zone) {L : List Zone} (us : List ℤ) (target n : ℕ) {g : Gro
   brought : list_at us target g.count ≡ L
   brought = ap (list_at us target) b.count ∙ e
 
-  pub put_overflow : {P : Type 0} → (insert_each (zone diag ∷ []) (list_at us target g.count) ≡ puts.overflow) × P → (insert_each (zone diag ∷ []) L ≡ puts.overflow) × P
-  put_overflow o = (subst (λ (K : List Zone). insert_each (zone diag ∷ []) K ≡ puts.overflow) brought o.0, o.1)
+  pub put_overflow : {P : Type 0} → (insert_each (Some diag ∷ []) (list_at us target g.count) ≡ puts.overflow) × P → (insert_each (Some diag ∷ []) L ≡ puts.overflow) × P
+  put_overflow o = (subst (λ (K : List Zone). insert_each (Some diag ∷ []) K ≡ puts.overflow) brought o.0, o.1)
 
-  pub put_listing : {Counts : ℕ → Type 0} {h : Growing} {vs : List ℤ} → Growth (insert_each (zone diag ∷ []) (list_at us target g.count)) Counts g (list_at us target g.count) vs target h → Listing (insert_each (zone diag ∷ []) L) vs target h.count
-  put_listing w = record { list = w.list; value = subst (λ (K : List Zone). insert_each (zone diag ∷ []) K ≡ listed w.list) brought w.value; holds = w.holds }
+  pub put_listing : {Counts : ℕ → Type 0} {h : Growing} {vs : List ℤ} → Growth (insert_each (Some diag ∷ []) (list_at us target g.count)) Counts g (list_at us target g.count) vs target h → Listing (insert_each (Some diag ∷ []) L) vs target h.count
+  put_listing w = record { list = w.list; value = subst (λ (K : List Zone). insert_each (Some diag ∷ []) K ≡ listed w.list) brought w.value; holds = w.holds }
 
 module _ {inner : List Zone} (diag : Zone) {told first second : ℕ} {us : List ℤ} {at n left : ℕ} (w : Ending inner told first second us at n left) where
-  pub star_overflow : {P : Type 0} → (insert_each (zone diag ∷ []) (list_at us at n) ≡ puts.overflow) × P → Overflowed (Star inner diag) told left
+  pub star_overflow : {P : Type 0} → (insert_each (Some diag ∷ []) (list_at us at n) ≡ puts.overflow) × P → Overflowed (Star inner diag) told left
   star_overflow (e, _) =
       let s = w.standing.spends in
       record {
         overflowing = record {
           opened = w.standing.rounds;
           done = w.standing.rounds;
-          means = diagonal_overflows w.standing.means (subst (λ (L : List Zone). insert_each (zone diag ∷ []) L ≡ puts.overflow) w.standing.holds.zones e);
+          means = diagonal_overflows w.standing.means (subst (λ (L : List Zone). insert_each (Some diag ∷ []) L ≡ puts.overflow) w.standing.holds.zones e);
           within = omega arith;
         };
         spends = s;
       }
 
-  pub star_closed : {vs : List ℤ} {target k : ℕ} → Listing (insert_each (zone diag ∷ []) (list_at us at n)) vs target k → Standing (Star inner diag) told vs target k left
+  pub star_closed : {vs : List ℤ} {target k : ℕ} → Listing (insert_each (Some diag ∷ []) (list_at us at n)) vs target k → Standing (Star inner diag) told vs target k left
   star_closed l =
       record {
         list = l.list;
         rounds = w.standing.rounds;
-        means = closed w.standing.means (subst (λ (L : List Zone). insert_each (zone diag ∷ []) L ≡ listed l.list) w.standing.holds.zones l.value);
+        means = closed w.standing.means (subst (λ (L : List Zone). insert_each (Some diag ∷ []) L ≡ listed l.list) w.standing.holds.zones l.value);
         spends = w.standing.spends;
         holds = l.holds;
       }
 
 -- rounds that overflow, and rounds beyond those told, are the star's
-pub rounds_overflow : {inner : List Zone} {diag : Zone} {told left : ℕ} → Overflowed (Rounds inner inner) told left → Overflowed (Star inner diag) told left
+rounds_overflow : {inner : List Zone} {diag : Zone} {told left : ℕ} → Overflowed (Rounds inner inner) told left → Overflowed (Star inner diag) told left
 rounds_overflow b =
     let o = b.overflowing in record { overflowing = record { opened = o.opened; done = o.done; means = round_overflows o.means; within = o.within }; spends = b.spends }
 
-pub rounds_exceed : {inner : List Zone} (diag : Zone) {told : ℕ} → Exceeding (Rounds inner inner) told → Exceeding (Star inner diag) told
+rounds_exceed : {inner : List Zone} (diag : Zone) {told : ℕ} → Exceeding (Rounds inner inner) told → Exceeding (Star inner diag) told
 rounds_exceed {inner} diag {told} x = go x.whole x.means x.beyond
   where
-    put : {r : ℕ} {F : List Zone} → Rounds inner inner (value F r) → told < r → (b : Built) → insert_each (zone diag ∷ []) F ≡ b → Exceeding (Star inner diag) told
+    put : {r : ℕ} {F : List Zone} → Rounds inner inner (value F r) → told < r → (b : Built) → insert_each (Some diag ∷ []) F ≡ b → Exceeding (Star inner diag) told
     put {r} t h (listed G) e = record { whole = value G r; means = closed t e; beyond = h }
     put {r} t h puts.overflow e = record { whole = overflow r r; means = diagonal_overflows t e; beyond = h }
 
     go : (v : Value) → Rounds inner inner v → told < begun v → Exceeding (Star inner diag) told
-    go (value F r) t h = put t h (insert_each (zone diag ∷ []) F) refl
+    go (value F r) t h = put t h (insert_each (Some diag ∷ []) F) refl
     go (overflow b f) t h = record { whole = overflow b f; means = round_overflows t; beyond = h }
+
+-- rounds that stop: what the star comes to, and that both slots are free
+module _ {ws us : List ℤ} {inner m target scratch : ℕ} (work : Workspace ws inner m target scratch) (c : Copied inner target (m * 6) ws us) (told : ℕ) (vs : List ℤ) where
+  pub stopped_star : (diag : Zone) (e : Stopped) → EndsAs (list_at us inner m) told target scratch vs (Err e) → EvaluatedAs (Star (list_at ws inner m) diag) told vs target (Err e)
+  stopped_star diag (Overflow left) o = rounds_overflow (begun_rounds work c (λ R. Overflowed R told left) o.0)
+  stopped_star diag Spent o = rounds_exceed diag (begun_rounds work c (λ R. Exceeding R told) o.0)
+
+  pub stopped_free : (e : Stopped) → EndsAs (list_at us inner m) told target scratch vs (Err e) → Free vs target × Free vs scratch
+  stopped_free (Overflow left) o = (o.1, o.2)
+  stopped_free Spent o = (o.1, o.2)

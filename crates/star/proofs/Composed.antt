@@ -1,4 +1,5 @@
 -- What the list after each round of a star holds: compositions of inner zones, and it covers all that are not too long.
+use Rattle.std.specs.Prelude.{Some}
 use mathlib.Core.Path.{◌≡◌, sym}
 use mathlib.Core.Logic.{⊎_elim}
 use mathlib.Core.List.Memᴰ
@@ -6,7 +7,6 @@ use mathlib.Core.List.{List, Memᴰ}
 use Prim.Native.Nat.{ℕ, suc, ◌≤◌}
 use native.Mathlib.Omega.{arith}
 use Rattle.zone.specs.declared.Zone.{Zone}
-use Rattle.zone.specs.declared.MaybeZone.TheVariants.{Zone as zone}
 use Rattle.zone.specs.Zone.{compose, Proper}
 use Rattle.zone.proofs.Laws.{contains_refl, compose_mono, proper_compose}
 use Rattle.pairs.specs.Pairs.{pairs}
@@ -20,7 +20,7 @@ use Rattle.star.proofs.Rounds.{After, After.begin, After.turn, round_puts, after
 -- x is the composition, from the left, of j inner zones
 pub data Composed (inner : List Zone) : ℕ → Zone → Type 0 where
   single : {z : Zone} → Memᴰ z inner → Composed inner 1 z
-  extend : {j : ℕ} {p w x : Zone} → Composed inner j p → Memᴰ w inner → compose p w ≡ zone x → Composed inner (suc j) x
+  extend : {j : ℕ} {p w x : Zone} → Composed inner j p → Memᴰ w inner → compose p w ≡ Some x → Composed inner (suc j) x
 
 some : {inner : List Zone} {j : ℕ} {x : Zone} → Composed inner j x → 1 ≤ j
 some (single m) = omega arith
@@ -37,8 +37,8 @@ module _ {from to : ℕ} {inner : List Zone} (proper : AllProper from to inner) 
   composed_proper (extend {w = w} o m e) = proper_compose (composed_proper o) (proper w m) e
 
   -- composition is monotone on the left: where p lies inside a zone of L, and K covers the compositions of L, K covers those of p
-  pub step : {j : ℕ} {p w x : Zone} {L K : List Zone} → Composed inner j p → Memᴰ w inner → compose p w ≡ zone x → Covered p L → AllProper from to L
-      → ((v : Zone) → Memᴰ (zone v) (pairs Compose L inner) → Covered v K) → Covered x K
+  pub step : {j : ℕ} {p w x : Zone} {L K : List Zone} → Composed inner j p → Memᴰ w inner → compose p w ≡ Some x → Covered p L → AllProper from to L
+      → ((v : Zone) → Memᴰ (Some v) (pairs Compose L inner) → Covered v K) → Covered x K
   step {w = w} {x = x} o m e c g f =
       let k = compose_mono (composed_proper o).tight (g c.0 c.1).tight (proper w m).tight c.2 e in
       covered_within x k.0 k.2 (f k.0 (Memᴰ.cast (sym k.1) (mem_pairs Compose c.1 m)))
@@ -49,7 +49,7 @@ module _ {from to : ℕ} {inner : List Zone} (proper : AllProper from to inner) 
       old : (y : Zone) → Memᴰ y L → (j : ℕ) × Composed inner j y × (j ≤ suc (suc k))
       old y m = let h = I.made y m in (h.0, h.1, let b = h.2 in omega arith)
 
-      new : (y : Zone) → Memᴰ (zone y) (pairs Compose L inner) → (j : ℕ) × Composed inner j y × (j ≤ suc (suc k))
+      new : (y : Zone) → Memᴰ (Some y) (pairs Compose L inner) → (j : ℕ) × Composed inner j y × (j ≤ suc (suc k))
       new y m =
           let q = pairs_mem Compose L inner m in
           let h = I.made q.0 q.2 in

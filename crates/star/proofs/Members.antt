@@ -1,4 +1,5 @@
 -- The pieces of what lies in a composition of inner zones.
+use Rattle.std.specs.Prelude.{Some}
 use mathlib.Core.Logic.Iff
 use mathlib.Core.Logic.{◌↔◌, ◌⊎◌, inl, inr, ⊎_map, ⊎_elim}
 use mathlib.Core.List.{List, [], ◌∷◌}
@@ -6,7 +7,6 @@ use Prim.Native.Nat.{ℕ, suc, ◌≤◌}
 use native.Mathlib.Omega.{arith}
 use Rattle.limit.specs.Time.{Time, ◌≈ᵀ◌}
 use Rattle.zone.specs.declared.Zone.{Zone}
-use Rattle.zone.specs.declared.MaybeZone.TheVariants.{Zone as zone}
 use Rattle.zone.specs.Zone.{In}
 use Rattle.zone.proofs.Laws.{compose_cut, compose_glue, in_same}
 use Rattle.limit.proofs.Times.{≈-refl, ≈-sym}
@@ -44,7 +44,7 @@ module _ {from to : ℕ} {inner : List Zone} (proper : AllProper from to inner) 
   module _ {diagonal : Zone} {r : ℕ} {G : List Zone} (s : Star inner diagonal (value G r)) (x y : Time) where
     -- in a star's list lie the stretches of the rounds' last list and of the diagonal
     star_parts : Lies G x y ↔ (Lies (star_rounds s).0 x y ⊎ In diagonal x y)
-    star_parts = let b = star_rounds s in Iff.trans (puts_lies (puts (zone diagonal ∷ []) b.0 b.2) x y) (⊎_map (λ l. l) (offered_one diagonal x y).0, ⊎_map (λ l. l) (offered_one diagonal x y).1)
+    star_parts = let b = star_rounds s in Iff.trans (puts_lies (puts (Some diagonal ∷ []) b.0 b.2) x y) (⊎_map (λ l. l) (offered_one diagonal x y).0, ⊎_map (λ l. l) (offered_one diagonal x y).1)
 
     -- a stretch in the list is cut into at most as many pieces as there were rounds
     pub star_cut : (In diagonal x y → x ≈ᵀ y) → Lies G x y → (n : ℕ) × (n ≤ r) × Pieces (Lies inner) n x y

@@ -1,11 +1,11 @@
 -- The rounds of a star: the list after each of them, that the rounds from there on are the rest of the whole, and that nothing is left open.
+use Rattle.std.specs.Prelude.{Some}
 use mathlib.Core.Path.{◌≡◌, refl, ap, subst}
 use mathlib.Core.List.{List, [], ◌∷◌}
 use Prim.Native.Nat.{ℕ, suc, ◌+◌, ◌≤◌}
 use native.Mathlib.Omega.{arith}
 use lib.ListN.{length}
 use Rattle.zone.specs.declared.Zone.{Zone}
-use Rattle.zone.specs.declared.MaybeZone.TheVariants.{Zone as zone}
 use Rattle.zone.proofs.Laws.{proper_compose}
 use Rattle.list.specs.Insert as puts
 use Rattle.list.specs.Insert.{capacity, listed, insert_each}
@@ -120,7 +120,7 @@ star_almost (diagonal_overflows t e) = omega arith
 star_almost (round_overflows t) = rounds_almost t
 
 -- a finished star: its rounds, and the diagonal put into their last list
-pub star_rounds : {inner : List Zone} {diagonal : Zone} {r : ℕ} {G : List Zone} → Star inner diagonal (value G r) → (F : List Zone) × Rounds inner inner (value F r) × (insert_each (zone diagonal ∷ []) F ≡ listed G)
+pub star_rounds : {inner : List Zone} {diagonal : Zone} {r : ℕ} {G : List Zone} → Star inner diagonal (value G r) → (F : List Zone) × Rounds inner inner (value F r) × (insert_each (Some diagonal ∷ []) F ≡ listed G)
 star_rounds (closed {F = F} t e) = (F, t, e)
 
 -- ---- no more than one outcome

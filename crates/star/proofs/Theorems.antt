@@ -1,4 +1,5 @@
 -- The theorems on the rounds of a star: the page that the crates above cite. x, y and t are times num / den of any denominators.
+use Rattle.std.specs.Prelude.{Some}
 use mathlib.Core.Path.{◌≡◌}
 use mathlib.Core.Logic.{◌↔◌}
 use mathlib.Core.List.{List, [], ◌∷◌}
@@ -7,7 +8,6 @@ use native.Mathlib.Omega.{arith}
 use lib.ListN.{length}
 use Rattle.limit.specs.Time.{Time, at_tick, ◌≤ᵀ◌}
 use Rattle.zone.specs.declared.Zone.{Zone}
-use Rattle.zone.specs.declared.MaybeZone.TheVariants.{Zone as zone}
 use Rattle.zone.specs.Zone.{diagonal}
 use Rattle.zone.proofs.Laws.{proper_diagonal, diagonal_members}
 use Rattle.star.specs.Star.{Value, value, begun, spent, Rounds, Star}
@@ -32,9 +32,9 @@ module _ {from to : ℕ} {inner : List Zone} {r : ℕ} {G : List Zone} (s : Star
       let b = star_rounds s in
       let a = (rounds_end b.1).1 in
       record {
-        proper = each_proper (zone (diagonal from to) ∷ []) b.0 b.2 (after_proper w.proper a) (one_proper (proper_diagonal from to h));
-        antichain = each_antichain (zone (diagonal from to) ∷ []) b.0 b.2 (after_antichain w.antichain a);
-        short = each_length (zone (diagonal from to) ∷ []) b.0 b.2 (after_length w.short a);
+        proper = each_proper (Some (diagonal from to) ∷ []) b.0 b.2 (after_proper w.proper a) (one_proper (proper_diagonal from to h));
+        antichain = each_antichain (Some (diagonal from to) ∷ []) b.0 b.2 (after_antichain w.antichain a);
+        short = each_length (Some (diagonal from to) ∷ []) b.0 b.2 (after_length w.short a);
       }
 
 -- ==== 3. The rounds of a star

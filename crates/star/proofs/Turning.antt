@@ -1,4 +1,5 @@
 -- The loop of a star's rounds, which go from one of two slots to the other.
+use Rattle.std.specs.Prelude.{Err}
 use mathlib.Core.Path.{◌≡◌, refl, sym, subst, ◌∙◌}
 use mathlib.Core.Logic.{◌⊎◌, inl, inr}
 use mathlib.Core.List.{List}
@@ -15,7 +16,7 @@ use Rattle.list.specs.Slots.{list_at, Free, Slot, Holds, Kept, KeptBoth, Disjoin
 use Rattle.pairs.specs.Operands.{Operands}
 use Rattle.operators.specs.Listing.{Workspace}
 use Rattle.star.specs.Steps.{Changes, Ending, EndsAs}
-use Rattle.star.specs.declared.Ended.TheVariants.{Overflow, Spent}
+use Rattle.purse.specs.declared.Stopped.TheVariants.{Overflow, Spent}
 use Rattle.star.proofs.Rounds.{After, After.begin as begin, After.turn as turn, after_proper, after_last, after_overflow, after_more}
 use Rattle.star.proofs.Bound.{after_exists}
 use Rattle.list.proofs.Slots.{list_at_same, list_there}
@@ -134,7 +135,7 @@ module _ {inner m first second : ℕ} {ws₀ : List ℤ} (work : Workspace ws₀
         }
 
     -- a put of this round would leave 129 zones: the round is begun, and not finished
-    pub turn_overflow : {vs : List ℤ} {told left : ℕ} → made + left ≡ told → 0 < left → (round (list_at ws inner m) (list_at ws list n) ≡ overflow) × Free vs copy → Kept copy 768 ws vs → EndsAs (list_at ws₀ inner m) told first second vs (Overflow left)
+    pub turn_overflow : {vs : List ℤ} {told left : ℕ} → made + left ≡ told → 0 < left → (round (list_at ws inner m) (list_at ws list n) ≡ overflow) × Free vs copy → Kept copy 768 ws vs → EndsAs (list_at ws₀ inner m) told first second vs (Err (Overflow left))
     turn_overflow q s (e, _) f = (
       record {
         overflowing = record { opened = suc made; done = made; means = after_overflow t.after (at_home (λ I. round I (list_at ws list n) ≡ overflow) e); within = omega arith };
@@ -145,7 +146,7 @@ module _ {inner m first second : ℕ} {ws₀ : List ℤ} (work : Workspace ws₀
     )
 
     -- all rounds told are made, and there is one more to be begun
-    pub turn_stop : {told : ℕ} → made ≡ told → EndsAs (list_at ws₀ inner m) told first second ws Spent
+    pub turn_stop : {told : ℕ} → made ≡ told → EndsAs (list_at ws₀ inner m) told first second ws (Err Spent)
     turn_stop q = (
       subst (Exceeding (Rounds (list_at ws₀ inner m) (list_at ws₀ inner m))) q (after_more t.after (after_exists work.list.sound (omega arith) t.after).1),
       first_free,

@@ -1,7 +1,6 @@
 -- The rounds of a star.
-use Rattle.std.specs.Prelude.{◌≡◌, List, [], ◌∷◌, ℕ}
+use Rattle.std.specs.Prelude.{◌≡◌, List, [], ◌∷◌, ℕ, Some}
 use Rattle.zone.specs.declared.Zone.{Zone}
-use Rattle.zone.specs.declared.MaybeZone.TheVariants.{Zone as zone}
 use Rattle.list.specs.Insert as puts
 use Rattle.list.specs.Insert.{Built, listed, insert_each}
 use Rattle.pairs.specs.Pairs.{pairs}
@@ -20,6 +19,6 @@ pub data Rounds (inner : List Zone) : List Zone → Value → Type 0 where
 
 -- the star: "begin with the inner list", the rounds, "Then the diagonal is put", which can be the 129th too
 pub data Star (inner : List Zone) (diagonal : Zone) : Value → Type 0 where
-  closed : {r : ℕ} {F G : List Zone} → Rounds inner inner (value F r) → insert_each (zone diagonal ∷ []) F ≡ listed G → Star inner diagonal (value G r)
-  diagonal_overflows : {r : ℕ} {F : List Zone} → Rounds inner inner (value F r) → insert_each (zone diagonal ∷ []) F ≡ puts.overflow → Star inner diagonal (overflow r r)
+  closed : {r : ℕ} {F G : List Zone} → Rounds inner inner (value F r) → insert_each (Some diagonal ∷ []) F ≡ listed G → Star inner diagonal (value G r)
+  diagonal_overflows : {r : ℕ} {F : List Zone} → Rounds inner inner (value F r) → insert_each (Some diagonal ∷ []) F ≡ puts.overflow → Star inner diagonal (overflow r r)
   round_overflows : {b f : ℕ} → Rounds inner inner (overflow b f) → Star inner diagonal (overflow b f)

@@ -3,9 +3,8 @@
 // specs/Star.antt says what the rounds come to, over plain lists of zones.
 #![tactic(auto)]
 
-ghost use Rattle.std.specs.Prelude.{◌≡◌, ◌⊎◌, [], ◌∷◌, ◌≤◌};
+ghost use Rattle.std.specs.Prelude.{◌≡◌, ◌⊎◌, [], ◌∷◌, ◌≤◌, Some};
 ghost use Rattle.zone.specs.Zone.{diagonal};
-ghost use Rattle.zone.specs.declared.MaybeZone.TheVariants.{Zone as zone};
 ghost use Rattle.list.specs.Insert.{insert_each};
 ghost use Rattle.list.specs.Slots.{slot_words, list_at, Free, Source, Kept, KeptBoth, Disjoint};
 ghost use Rattle.pairs.specs.Operands.{Operands};
@@ -14,58 +13,52 @@ ghost use Rattle.purse.specs.Purse.{EvaluatedAs};
 ghost use Rattle.star.specs.Star.{Star};
 ghost use Rattle.star.specs.Steps.{RoundAs, EndsAs};
 
-use growing::Grown;
-use operators::Listed;
+use list::Overflow;
 use pairs::Operation;
-use purse::Evaluated;
+use purse::{Listed, Stopped};
+use std::mem;
 use zone::Zone;
 
-// A round: it changed nothing, or the new list has so many zones; and how many pairs it composed.
+// A round: how many zones the new list has, or `None` where nothing changed; and how many pairs it composed.
 #[derive(Clone, Copy)]
-enum Round {
-    Same { pairs: usize },
-    Changed { count: usize, pairs: usize },
-    Overflow,
+struct Round {
+    changed: Option<usize>,
+    pairs: usize,
 }
 
-// All rounds of a star: where the last list stands, its count and the rounds left; or why there is none.
+// All rounds of a star: where the last list stands, its count and the rounds left.
 #[derive(Clone, Copy)]
-enum Ended {
-    EndedAt { at: usize, count: usize, left: u64 },
-    Overflow { left: u64 },
-    Spent,
+struct Ended {
+    at: usize,
+    count: usize,
+    left: u64,
 }
 
 // One round: the list copied to `copy`, and there each listed zone's composition with each inner zone that it touches.
-fn one_round(words: &mut [i32], list: usize, n: usize, inner: usize, m: usize, copy: usize) -> Round
+fn one_round(
+    words: &mut [i32],
+    list: usize,
+    n: usize,
+    inner: usize,
+    m: usize,
+    copy: usize,
+) -> Result<Round, Overflow>
     requires { Operands words.old list n inner m copy 0 }
     ensures round { RoundAs (list_at words.old inner m) (list_at words.old list n) words.new copy result }
     ensures kept { Kept copy slot_words words.old words.new }
 {
     list::copy_zones(words, list, copy, n);
-    let Grown::Grew(g) = products::each_pair(
-        words,
-        Operation::Compose,
-        list,
-        n,
-        inner,
-        m,
-        copy,
-        growing::standing(n),
-    ) else {
-        return Round::Overflow;
-    };
-    if g.changed == 0 {
-        return Round::Same { pairs: g.pairs };
-    }
-    Round::Changed {
-        count: g.count,
+    let old = growing::standing(n);
+    let g = products::each_pair(words, Operation::Compose, list, n, inner, m, copy, old)?;
+    let changed = if g.changed == 0 { None } else { Some(g.count) };
+    Ok(Round {
+        changed,
         pairs: g.pairs,
-    }
+    })
 }
 
 // All rounds of a star, from the inner list at `first` on. A round goes from the one slot to the other, so that only the
-// copy is made that a round is. NoPair is begun beyond those told; that more would be begun then is known by the bound on rounds.
+// copy is made that a round is. None is begun beyond those told; that more would be begun then is known by the bound on rounds.
 fn all_rounds(
     words: &mut [i32],
     inner: usize,
@@ -73,7 +66,7 @@ fn all_rounds(
     first: usize,
     second: usize,
     told: u64,
-) -> Ended
+) -> Result<Ended, Stopped>
     requires { (Workspace words.old inner m first second) × (list_at words.old first m ≡ list_at words.old inner m) }
     ensures ended { EndsAs (list_at words.old inner m) told first second words.new result }
     ensures kept { KeptBoth first second words.old words.new }
@@ -84,46 +77,41 @@ fn all_rounds(
     let mut left = told;
     loop {
         if left == 0 {
-            return Ended::Spent;
+            return Err(Stopped::Spent);
         }
-        match one_round(words, list, n, inner, m, copy) {
-            Round::Same { pairs: _ } => {
-                return Ended::EndedAt {
-                    at: list,
-                    count: n,
-                    left: left - 1,
-                };
-            }
-            Round::Changed { count: k, pairs: _ } => {
-                left -= 1;
-                n = k;
-                let before = list;
-                list = copy;
-                copy = before;
-            }
-            Round::Overflow => {
-                return Ended::Overflow { left };
-            }
-        }
+        let Ok(round) = one_round(words, list, n, inner, m, copy) else {
+            return Err(Stopped::Overflow { left });
+        };
+        left -= 1;
+        let Some(count) = round.changed else {
+            return Ok(Ended {
+                at: list,
+                count: n,
+                left,
+            });
+        };
+        n = count;
+        mem::swap(&mut list, &mut copy);
     }
 }
 
 // The list of n zones at `at`, brought to `target`, with the diagonal of ticks from..to put into it.
-fn close(words: &mut [i32], at: usize, n: usize, target: usize, from: u32, to: u32) -> Listed
+fn close(
+    words: &mut [i32],
+    at: usize,
+    n: usize,
+    target: usize,
+    from: u32,
+    to: u32,
+) -> Result<usize, Overflow>
     requires { (Source words.old at n) × (Free words.old target) × ((at ≡ target) ⊎ (Disjoint at target)) × (from ≤ to) × (to ≤ 1_000_000) }
-    ensures built { BuiltAs (insert_each (zone (diagonal from to) ∷ []) (list_at words.old at n)) words.new target result }
+    ensures built { BuiltAs (insert_each (Some (diagonal from to) ∷ []) (list_at words.old at n)) words.new target result }
     ensures kept { Kept target slot_words words.old words.new }
 {
     list::bring(words, at, n, target);
-    let Grown::Grew(g) = growing::grow(
-        words,
-        target,
-        growing::standing(n),
-        Zone::diagonal(from, to),
-    ) else {
-        return Listed::Overflow; // the diagonal would be the 129th
-    };
-    Listed::Count(g.count)
+    let diagonal = Zone::diagonal(from, to);
+    let g = growing::grow(words, target, growing::standing(n), diagonal)?;
+    Ok(g.count)
 }
 
 // `*`: the rounds, and then the diagonal of ticks from..to, into the list at `target`. It may make as many rounds as it is told. The slot
@@ -137,19 +125,17 @@ pub fn star(
     from: u32,
     to: u32,
     told: u64,
-) -> Evaluated
+) -> Result<Listed, Stopped>
     requires { (Workspace words.old inner m target scratch) × (from ≤ to) × (to ≤ 1_000_000) }
     ensures closed { EvaluatedAs (Star (list_at words.old inner m) (diagonal from to)) told words.new target result }
     ensures kept { KeptBoth target scratch words.old words.new }
     ensures free { Free words.new target × Free words.new scratch }
 {
     list::copy_zones(words, inner, target, m);
-    match all_rounds(words, inner, m, target, scratch, told) {
-        Ended::EndedAt { at, count: n, left } => match close(words, at, n, target, from, to) {
-            Listed::Count(count) => Evaluated::Listed { count, left },
-            Listed::Overflow => Evaluated::Overflow { left },
-        },
-        Ended::Overflow { left } => Evaluated::Overflow { left },
-        Ended::Spent => Evaluated::Spent,
-    }
+    let last = all_rounds(words, inner, m, target, scratch, told)?;
+    let left = last.left;
+    let Ok(count) = close(words, last.at, last.count, target, from, to) else {
+        return Err(Stopped::Overflow { left }); // the diagonal would be the 129th
+    };
+    Ok(Listed { count, left })
 }

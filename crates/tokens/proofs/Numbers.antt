@@ -9,7 +9,7 @@ use lib.ListN.{length, drop}
 use Rattle.expression.specs.declared.End.{End}
 use Rattle.expression.specs.declared.End.TheVariants.{Closed, Open}
 use Rattle.tokens.specs.Tokens.{no, yes, branch, bind, starts, expect, ranged, digits, numeral, numbered, bound, upper_end, limits, cap, capped_end, capped_upper, capped_range, Got-at}
-use Rattle.tokens.specs.Readers.{Past, Offset-at}
+use Rattle.tokens.specs.Readers.{Past, Offset-at, OffsetAs}
 use Rattle.tokens.proofs.Text.{rest_past}
 use Rattle.tokens.proofs.Grammar.{ranged_sound, digits_on, digits_off}
 
@@ -68,8 +68,10 @@ counts_zero {text} {pos = pos} s h =
     let z : s.size ≡ 0 = cap_zero s.size (omega (arith, s.is)) in
     counted s (rw z (digits_zero (drop pos text)))
 
-pub counts_off : {text : List ℕ} {at pos v : ℕ} → Counted text at pos v → ranged 48 10 (drop pos text) ≡ no → Got-at numeral cap text at pos v
-counts_off {text} {pos = pos} s e = counted s (digits_off s.size (drop pos text) e)
+-- no digit follows
+pub counts_end : {text : List ℕ} {at pos v : ℕ} → Counted text at pos v → (r : Option ℕ) → OffsetAs 48 10 text pos r → r ≡ None → Got-at numeral cap text at pos v
+counts_end s (Some k) o e = cc
+counts_end {text} {pos = pos} s None o e = counted s (digits_off s.size (drop pos text) o)
 
 pub counts_on : {text : List ℕ} {at pos v w d : ℕ} → Counted text at pos v → 0 < v → Offset-at 48 10 text pos d → w ≡ cap (v * 10 + d) → Counted text at (pos + 1) w
 counts_on {text} {pos = pos} {v = v} {d = d} s h o e =

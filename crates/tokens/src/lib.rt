@@ -44,10 +44,10 @@ fn number_at(text: &[u8], at: usize) -> Option<(usize, u32)>
 {
     let mut value = offset_at(text, at, b'0', 10)?;
     let mut pos = at + 1;
-    while 0 < value {
-        let Some(digit) = offset_at(text, pos, b'0', 10) else {
-            return Some((pos, value));
-        };
+    // Not a `for` over the bytes: no digit follows a 0, and the place behind the last one is a part of the answer.
+    while 0 < value
+        && let Some(digit) = offset_at(text, pos, b'0', 10)
+    {
         value = (value * 10 + digit).min(1_000_001);
         pos += 1;
     }

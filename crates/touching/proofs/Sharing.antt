@@ -1,4 +1,5 @@
 -- Ranges that have a time in common, and zones: what is left of a pair whose ranges have none, and when two zones touch.
+use Rattle.std.specs.Prelude.{Option, Some, None}
 use mathlib.Core.Path.{◌≡◌, refl, sym, ap, subst, ◌∙◌}
 use mathlib.Core.Bool.{Bool, true, false, cond, ◌&&◌}
 use mathlib.Core.Logic.{◌↔◌}
@@ -8,8 +9,6 @@ use Rattle.limit.specs.declared.Limit.{Limit}
 use Rattle.limit.specs.Limit.{at_most, ◌≤ᴸ◌, ◌⊕◌, nought}
 use Rattle.limit.proofs.Order.{≤-refl, ≤_trans, ⊕-mono, ⊕-comm}
 use Rattle.zone.specs.declared.Zone.{Zone}
-use Rattle.zone.specs.declared.MaybeZone.{MaybeZone}
-use Rattle.zone.specs.declared.MaybeZone.TheVariants.{Zone as zone, Empty as empty}
 use Rattle.zone.specs.Zone.{Tight, TightMaybe, Touches, where_room, meet, compose, across}
 use Rattle.zone.proofs.Laws.{tight_member, compose_tight, compose_cut, compose_empty}
 use Rattle.zone.proofs.Tighten.{meet_first_l, meet_first_r}
@@ -26,12 +25,12 @@ pub share_more : {upper nupper start nstart start' nstart' : Limit} → start �
 share_more a b s = record { over = ≤_trans s.over (⊕-mono b (≤-refl _)); under = ≤_trans s.under (⊕-mono a (≤-refl _)) }
 
 -- an answer behind two tests that do not both hold
-module _ (l m k n : Limit) (answer : MaybeZone) where
-  lacks : ¬ ((nought ≤ᴸ l ⊕ m) × (nought ≤ᴸ k ⊕ n)) → where_room l m (where_room k n answer) ≡ empty
+module _ (l m k n : Limit) (answer : Option Zone) where
+  lacks : ¬ ((nought ≤ᴸ l ⊕ m) × (nought ≤ᴸ k ⊕ n)) → where_room l m (where_room k n answer) ≡ None
   unfolding where_room
   lacks f = go (at_most nought (l ⊕ m)) (at_most nought (k ⊕ n)) refl refl
     where
-      go : (a b : Bool) → at_most nought (l ⊕ m) ≡ a → at_most nought (k ⊕ n) ≡ b → cond a (cond b answer empty) empty ≡ empty
+      go : (a b : Bool) → at_most nought (l ⊕ m) ≡ a → at_most nought (k ⊕ n) ≡ b → cond a (cond b answer None) None ≡ None
       go true true p q = absurd (f (record { le = subst T (sym p) tt }, record { le = subst T (sym q) tt }))
       go true false p q = refl
       go false b p q = refl
@@ -48,18 +47,18 @@ module _ (z w : Zone) where
   abbrev pub Abut : Type 0
   Abut = Share z.end z.nend w.start w.nstart
 
-  pub compose_apart : ¬ Abut → compose z w ≡ empty
+  pub compose_apart : ¬ Abut → compose z w ≡ None
   unfolding compose
-  compose_apart f = lacks w.nstart z.end z.nend w.start (zone (across z w)) (λ r. f (record { over = r.0; under = subst (λ (l : Limit). nought ≤ᴸ l) (⊕-comm z.nend w.start) r.1 }))
+  compose_apart f = lacks w.nstart z.end z.nend w.start (Some (across z w)) (λ r. f (record { over = r.0; under = subst (λ (l : Limit). nought ≤ᴸ l) (⊕-comm z.nend w.start) r.1 }))
 
-  pub meet_apart : ¬ Share z.start z.nstart w.start w.nstart → meet z w ≡ empty
+  pub meet_apart : ¬ Share z.start z.nstart w.start w.nstart → meet z w ≡ None
   meet_apart f =
       sym (meet_first_l z w) ∙ ap (where_room z.start w.nstart) (sym (meet_first_r z w))
       ∙ lacks z.start w.nstart w.start z.nstart (meet z w) (λ r. f (record { over = subst (λ (l : Limit). nought ≤ᴸ l) (⊕-comm z.start w.nstart) r.0; under = r.1 }))
 
-  composed : Abut → compose z w ≡ zone (across z w)
+  composed : Abut → compose z w ≡ Some (across z w)
   unfolding compose
-  composed s = has w.nstart z.end z.nend w.start (zone (across z w)) s.over (subst (λ (l : Limit). nought ≤ᴸ l) (⊕-comm w.start z.nend) s.under)
+  composed s = has w.nstart z.end z.nend w.start (Some (across z w)) s.over (subst (λ (l : Limit). nought ≤ᴸ l) (⊕-comm w.start z.nend) s.under)
 
   abut? : Dec Abut
   abut? = go (at_most nought (w.nstart ⊕ z.end)) (at_most nought (w.start ⊕ z.nend)) refl refl

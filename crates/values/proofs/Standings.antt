@@ -1,14 +1,13 @@
 -- What was built in a slot, as the value of an operator.
-use Rattle.std.proofs.Common.{Option, Some, None}
+use Rattle.std.specs.Prelude.{Option, Some, None}
 use mathlib.Core.Path.{◌≡◌, refl, sym, ap}
 use mathlib.Core.List.{List}
 use Prim.Native.Nat.{ℕ, ◌+◌, ◌≤◌}
 use native.Mathlib.Omega.{arith}
 use lib.IntN.{ℤ}
 use mathlib.Core.Logic.{inl, inr}
-use Rattle.zone.specs.declared.MaybeZone.{MaybeZone}
-use Rattle.zone.specs.declared.MaybeZone.TheVariants.{Zone as zone, Empty as empty}
 use Rattle.limit.specs.Limit.{Small, most_ticks}
+use Rattle.zone.specs.declared.Zone.{Zone}
 use Rattle.zone.proofs.Laws.{proper_within, proper_band}
 use Rattle.limit.proofs.Means.{small_most, small_least}
 use Rattle.list.specs.Insert as puts
@@ -82,9 +81,9 @@ kept_region h g i j k =
 pub band_sound : (from to : ℕ) (r : Range) → to ≤ 1_000_000 → SoundBand (range_band from to r)
 band_sound from to r h = go (range_band from to r) refl
   where
-    go : (b : MaybeZone) → range_band from to r ≡ b → SoundBand b
-    go (zone z) e = proper_within (omega arith) h (proper_band from to (longest from to r.hi) (lower_limit r.lo) e)
-    go empty e = tt
+    go : (b : Option Zone) → range_band from to r ≡ b → SoundBand b
+    go (Some z) e = proper_within (omega arith) h (proper_band from to (longest from to r.hi) (lower_limit r.lo) e)
+    go None e = tt
 
 -- the ends of a right range are small
 pub lower_small : (r : Range) → (Wrong r → ⊥) → figure r.lo ≤ most_ticks

@@ -25,7 +25,7 @@ use limit::Limit;
 use list::SLOT_WORDS;
 use operators::{Composed, Listed};
 use purse::Evaluated;
-use zone::{MaybeZone, Zone};
+use zone::Zone;
 
 // The words of two slots: how far behind its operands' slots a list is built.
 const TWO_SLOTS: usize = 2 * SLOT_WORDS;
@@ -119,7 +119,7 @@ fn longest(range: Range, from: u32, to: u32) -> Limit
 }
 
 // The band of a range.
-fn range_band(range: Range, from: u32, to: u32) -> MaybeZone
+fn range_band(range: Range, from: u32, to: u32) -> Option<Zone>
     requires { (Ticks from to) × (Wrong range → ⊥) }
     ensures { result ≡ range_band from to range }
 {

@@ -1,8 +1,9 @@
 -- The composition of two tight zones is tight as it stands: nothing is left to tighten.
+use Rattle.std.specs.Prelude.{Some}
 use mathlib.Core.Path.{◌≡◌, sym, ap, ◌∙◌}
 use Rattle.limit.specs.declared.Limit.{Limit}
 use Rattle.limit.specs.Limit.{◌≤ᴸ◌, ◌⊕◌, lesser, nought}
-use Rattle.zone.specs.Zone.{Zone, zone, where_room, across, compose}
+use Rattle.zone.specs.Zone.{Zone, where_room, across, compose}
 use Rattle.zone.proofs.Closed.{Closed, ClosedMaybe}
 use Rattle.limit.proofs.Order.{≤-refl, ≤_trans, flip, ⊕-mono, ⊕-comm, ⊕-assoc, fst, snd, right, left, mid, keep_l, keep_r, lesser_l, lesser_r, lesser_2}
 use Rattle.zone.proofs.Tighten.{room_is}
@@ -83,6 +84,6 @@ across_tight {z} {w} h k a b =
 pub compose_tight : {z w : Zone} → Closed z → Closed w → ClosedMaybe (compose z w)
 unfolding compose
 compose_tight {z} {w} h k =
-    room_is w.nstart z.end (where_room z.nend w.start (zone (across z w))) ClosedMaybe
-    (λ a. room_is z.nend w.start (zone (across z w)) ClosedMaybe (λ b. across_tight h k a b) (λ n. tt))
+    room_is w.nstart z.end (where_room z.nend w.start (Some (across z w))) ClosedMaybe
+    (λ a. room_is z.nend w.start (Some (across z w)) ClosedMaybe (λ b. across_tight h k a b) (λ n. tt))
     (λ n. tt)

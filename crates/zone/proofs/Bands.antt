@@ -1,11 +1,12 @@
 -- What is left to tighten of all stretches with limits on their length: nothing where no length is left; else the latest start and the
 -- earliest end, which the shortest length moves.
+use Rattle.std.specs.Prelude.{Option, Some, None}
 use mathlib.Core.Path.{◌≡◌, refl, sym}
 use Prim.Native.Nat.{ℕ}
 use Rattle.limit.specs.declared.Limit.{Limit}
 use Rattle.limit.specs.Limit.{◌≤ᴸ◌, ◌⊕◌, lesser, most, least, nought}
 use Rattle.limit.proofs.Order.{≤-refl, ≤_trans, ⊕-mono, ⊕-assoc, ⊕-nought, nought-⊕, off_nought, flip, lesser_l, lesser_of, lesser_is_l}
-use Rattle.zone.specs.Zone.{Zone, MaybeZone, zone, empty, tighter, tighten, everything, limited, band}
+use Rattle.zone.specs.Zone.{Zone, tighter, tighten, everything, limited, band}
 use Rattle.zone.proofs.Steps.{checked, tighten_checked}
 use Rattle.zone.proofs.Tighten.{room_is}
 
@@ -34,14 +35,14 @@ module _ (from to : ℕ) (longest shortest : Limit) where
   unfolding limited everything
   shortest_is = lesser_l _ _
 
-  pub no_length : ¬ (nought ≤ᴸ lengths.length ⊕ lengths.nlength) → empty ≡ band from to longest shortest
+  pub no_length : ¬ (nought ≤ᴸ lengths.length ⊕ lengths.nlength) → None ≡ band from to longest shortest
   unfolding band tighten tighter
   no_length n =
       let t = tighter lengths in
-      let P : MaybeZone → Type 0 = λ a. empty ≡ a in
+      let P : Option Zone → Type 0 = λ a. None ≡ a in
       room_is t.start t.nstart _ P
       (λ _. room_is t.end t.nend _ P
-      (λ _. room_is t.length t.nlength (zone t) P (λ h. absurd (n (≤_trans h (⊕-mono (lesser_l _ _) (lesser_l _ _))))) (λ _. refl))
+      (λ _. room_is t.length t.nlength (Some t) P (λ h. absurd (n (≤_trans h (⊕-mono (lesser_l _ _) (lesser_l _ _))))) (λ _. refl))
       (λ _. refl))
       (λ _. refl)
 
@@ -73,14 +74,14 @@ module _ (from to : ℕ) (longest shortest : Limit) where
     unfolding limited everything
     ends = lesser_of (λ l. nought ≤ᴸ most to ⊕ l) wide (rw (← ⊕-assoc (most to) (least from) lengths.nlength) (≤_trans some (⊕-mono longest_is (≤-refl _))))
 
-    pub some_length : zone (shifted lengths) ≡ band from to longest shortest
+    pub some_length : Some (shifted lengths) ≡ band from to longest shortest
     unfolding band checked
     some_length =
         let t = shifted lengths in
-        let P : MaybeZone → Type 0 = λ a. zone t ≡ a in
+        let P : Option Zone → Type 0 = λ a. Some t ≡ a in
         tighten_checked lengths tighter_is
         (room_is t.start t.nstart _ P
         (λ _. room_is t.end t.nend _ P
-        (λ _. room_is t.length t.nlength (zone t) P (λ _. refl) (λ n. absurd (n some)))
+        (λ _. room_is t.length t.nlength (Some t) P (λ _. refl) (λ n. absurd (n some)))
         (λ n. absurd (n ends)))
         (λ n. absurd (n starts)))

@@ -1,6 +1,7 @@
 -- The closed form of a tight zone, on its limits alone. Tight.antt proves that it is what tight means.
+use Rattle.std.specs.Prelude.{Option, Some, None}
 use Rattle.limit.specs.Limit.{◌≤ᴸ◌, ◌⊕◌, nought}
-use Rattle.zone.specs.Zone.{Zone, MaybeZone, zone, empty}
+use Rattle.zone.specs.Zone.{Zone}
 
 -- no limit exceeds the sum of two others on the same way, no way round is negative, and 0 ≤ start ≤ end is among the limits
 pub record Closed (z : Zone) : Type 0 where
@@ -16,6 +17,6 @@ pub record Closed (z : Zone) : Type 0 where
   pub after_0 : z.nstart ≤ᴸ nought
   pub onward : z.nlength ≤ᴸ nought
 
-abbrev pub ClosedMaybe : MaybeZone → Type 0
-ClosedMaybe (zone z) = Closed z
-ClosedMaybe empty = Unit {0}
+abbrev pub ClosedMaybe : Option Zone → Type 0
+ClosedMaybe (Some z) = Closed z
+ClosedMaybe None = Unit {0}

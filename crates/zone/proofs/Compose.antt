@@ -1,4 +1,5 @@
 -- The composition of two tight zones holds exactly the stretches that have a cut.
+use Rattle.std.specs.Prelude.{Some}
 use mathlib.Core.Path.{refl}
 use mathlib.Core.Logic.{◌↔◌}
 use mathlib.Core.List.{[], ◌∷◌}
@@ -8,7 +9,7 @@ use native.Mathlib.Omega.{arith}
 use Rattle.limit.specs.Time.{Time}
 use Rattle.limit.specs.declared.Limit.{Limit}
 use Rattle.limit.specs.Limit.{◌≤ᴸ◌, ◌⊕◌, nought}
-use Rattle.zone.specs.Zone.{Zone, In, zone, InMaybe, where_room, across, compose}
+use Rattle.zone.specs.Zone.{Zone, In, InMaybe, where_room, across, compose}
 use Rattle.zone.proofs.Closed.{Closed}
 use Rattle.limit.proofs.Linear.{up, dn, un_le, le_lin, nought_up, nought_dn, nought_un}
 use Rattle.limit.proofs.Common.{KeepsOver, Is, Is_scale, over_scale, widen, through, self, round}
@@ -78,11 +79,11 @@ module _ {z w : Zone} (tz : Closed z) (tw : Closed w) where
 pub compose_is : {z w : Zone} → Closed z → Closed w → (x y : Time) → InMaybe (compose z w) x y ↔ ((t : Time) × In z x t × In w t y)
 unfolding compose
 compose_is {z} {w} tz tw x y = (
-  room_is w.nstart z.end (where_room z.nend w.start (zone (across z w))) (λ r. InMaybe r x y → Cut)
-      (λ a. room_is z.nend w.start (zone (across z w)) (λ r. InMaybe r x y → Cut) (λ b h. make a b h) (λ n h. absurd h))
+  room_is w.nstart z.end (where_room z.nend w.start (Some (across z w))) (λ r. InMaybe r x y → Cut)
+      (λ a. room_is z.nend w.start (Some (across z w)) (λ r. InMaybe r x y → Cut) (λ b h. make a b h) (λ n h. absurd h))
       (λ n h. absurd h),
-  λ c. room_is w.nstart z.end (where_room z.nend w.start (zone (across z w))) (λ r. InMaybe r x y)
-      (λ a. room_is z.nend w.start (zone (across z w)) (λ r. InMaybe r x y)
+  λ c. room_is w.nstart z.end (where_room z.nend w.start (Some (across z w))) (λ r. InMaybe r x y)
+      (λ a. room_is z.nend w.start (Some (across z w)) (λ r. InMaybe r x y)
       (λ b. (in_over (hD c) (ix c) (iy c)).1 (glue tz tw (left c) (right c)))
       (λ n. absurd (n (round (hD c) (through (left c).nend (right c).start)))))
       (λ n. absurd (n (round (hD c) (through (right c).nstart (left c).end)))),

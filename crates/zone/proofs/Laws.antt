@@ -1,5 +1,6 @@
 -- The laws of zones: what the crates above cite of them, so that none looks inside a limit. (Laws of times and of words in a buffer have
 -- files of their own.) x, y and t are times num / den of any denominators.
+use Rattle.std.specs.Prelude.{Option, Some, None}
 use mathlib.Core.Path.{◌≡◌, refl, sym, ap, subst, ◌∙◌}
 use mathlib.Core.Bool.{Bool, true, false}
 use mathlib.Core.Logic.{◌↔◌}
@@ -13,7 +14,7 @@ use Rattle.limit.specs.Time.{Time, origin, at_tick, difference, scaled, ◌≤�
 use Rattle.limit.specs.declared.Limit.{Limit}
 use Rattle.limit.specs.declared.Limit.TheVariants.{AtMost, Below}
 use Rattle.limit.specs.Limit.{Within, ◌≤ᴸ◌, nought, most}
-use Rattle.zone.specs.Zone.{Zone, MaybeZone, zone, empty, In, InMaybe, Proper, Side, limit, upper, lower, Keeps, Loses, Tight, TightMaybe, tighten, meet, compose, contains, Includes, Stretch, across, run, diagonal, everything, band, Ranged}
+use Rattle.zone.specs.Zone.{Zone, In, InMaybe, Proper, Side, limit, upper, lower, Keeps, Loses, Tight, TightMaybe, tighten, meet, compose, contains, Includes, Stretch, across, run, diagonal, everything, band, Ranged}
 use Rattle.limit.proofs.Linear.{up, dn, sum_ud}
 use Rattle.limit.proofs.Order as order
 use Rattle.limit.proofs.Times as times
@@ -30,13 +31,13 @@ use Rattle.zone.proofs.Range.{inside_is, range, num_le}
 use Rattle.zone.proofs.Lengths as lengths
 use Rattle.zone.proofs.Lengths.{Extends, span, composed}
 
-no_zone : {z : Zone} → ¬ (◌≡◌ {A = MaybeZone} empty (zone z))
+no_zone : {z : Zone} → ¬ (◌≡◌ {A = Option Zone} None (Some z))
 no_zone e = let f : ◌≡◌ {A = ℕ} 0 1 = cc in omega arith
 
--- an answer is Empty, or the zone it holds
-settle : (r : MaybeZone) (P : Type 0) → ((z : Zone) → r ≡ zone z → P) → (r ≡ empty → P) → P
-settle (zone z) P f g = f z refl
-settle empty P f g = g refl
+-- an answer is None, or the zone it holds
+settle : (r : Option Zone) (P : Type 0) → ((z : Zone) → r ≡ Some z → P) → (r ≡ None → P) → P
+settle (Some z) P f g = f z refl
+settle None P f g = g refl
 
 -- ==== 1. Tightening, of a zone whose limits include 0 ≤ start ≤ end
 
@@ -49,7 +50,7 @@ pub tighten_tight : (z : Zone) → z.nstart ≤ᴸ nought → z.nlength ≤ᴸ n
 tighten_tight z = (tighten_means z refl).tight
 
 -- a tight zone is unchanged
-pub tighten_same : {z : Zone} → Tight z → tighten z ≡ zone z
+pub tighten_same : {z : Zone} → Tight z → tighten z ≡ Some z
 tighten_same h = tightening.tighten_same (tight_is.0 h)
 
 -- ==== 2. Tight
@@ -84,12 +85,12 @@ not_attained k v p x y h = not_equal v p (upper origin k x y) (lower origin k x 
 pub cannot_lower : {z : Zone} → Tight z → (k : Side) (m : Limit) → ¬ (limit z k ≤ᴸ m) → Loses z k m
 cannot_lower h = h.sharp
 
--- Empty exactly if there is no member
-pub tighten_empty : (z : Zone) → z.nstart ≤ᴸ nought → z.nlength ≤ᴸ nought → (tighten z ≡ empty) ↔ ((x y : Time) → ¬ In z x y)
+-- None exactly if there is no member
+pub tighten_empty : (z : Zone) → z.nstart ≤ᴸ nought → z.nlength ≤ᴸ nought → (tighten z ≡ None) ↔ ((x y : Time) → ¬ In z x y)
 tighten_empty z a b = (
-  λ e x y h. subst (λ (r : MaybeZone). InMaybe r x y) e ((tighten_members z x y).1 h),
-  λ f. settle (tighten z) (tighten z ≡ empty)
-      (λ t e. let m = tight_member (subst TightMaybe e (tighten_tight z a b)) in absurd (f m.0 m.1 ((tighten_members z m.0 m.1).0 (subst (λ (r : MaybeZone). InMaybe r m.0 m.1) (sym e) m.2))))
+  λ e x y h. subst (λ (r : Option Zone). InMaybe r x y) e ((tighten_members z x y).1 h),
+  λ f. settle (tighten z) (tighten z ≡ None)
+      (λ t e. let m = tight_member (subst TightMaybe e (tighten_tight z a b)) in absurd (f m.0 m.1 ((tighten_members z m.0 m.1).0 (subst (λ (r : Option Zone). InMaybe r m.0 m.1) (sym e) m.2))))
       (λ e. e),
 )
 
@@ -99,15 +100,15 @@ tighten_empty z a b = (
 pub meet_members : (z w : Zone) (x y : Time) → InMaybe (meet z w) x y ↔ (In z x y × In w x y)
 meet_members z w = (meet_means z w refl).members
 
--- tight, or Empty, where one is tight
+-- tight, or None, where one is tight
 pub meet_tight : {z : Zone} (w : Zone) → Tight z → TightMaybe (meet z w)
 meet_tight {z} w = (meet_means z w refl).tight
 
-pub proper_meet : {from to : ℕ} {z : Zone} (w : Zone) {x : Zone} → Proper from to z → meet z w ≡ zone x → Proper from to x
+pub proper_meet : {from to : ℕ} {z : Zone} (w : Zone) {x : Zone} → Proper from to z → meet z w ≡ Some x → Proper from to x
 proper_meet {z} w p e =
     record {
       tight = subst TightMaybe e (meet_tight w p.tight);
-      inside = record { inside = λ s t h. p.inside.inside s t ((meet_members z w s t).0 (subst (λ (r : MaybeZone). InMaybe r s t) (sym e) h)).0 };
+      inside = record { inside = λ s t h. p.inside.inside s t ((meet_members z w s t).0 (subst (λ (r : Option Zone). InMaybe r s t) (sym e) h)).0 };
     }
 
 -- ==== 4. Composition of tight zones
@@ -116,31 +117,31 @@ proper_meet {z} w p e =
 pub compose_members : {z w : Zone} → Tight z → Tight w → (x y : Time) → InMaybe (compose z w) x y ↔ ((t : Time) × In z x t × In w t y)
 compose_members {z} {w} = (compose_means z w refl).members
 
--- tight, or Empty
+-- tight, or None
 pub compose_tight : {z w : Zone} → Tight z → Tight w → TightMaybe (compose z w)
 compose_tight {z} {w} = (compose_means z w refl).tight
 
 module _ {z w : Zone} (h : Tight z) (k : Tight w) where
-  -- of a composition that is not Empty: a member has a cut, and a stretch with a cut is a member
-  pub compose_cut : {v : Zone} → compose z w ≡ zone v → (x y : Time) → In v x y → (t : Time) × In z x t × In w t y
-  compose_cut e x y p = (compose_members h k x y).0 (subst (λ (r : MaybeZone). InMaybe r x y) (sym e) p)
+  -- of a composition that is not None: a member has a cut, and a stretch with a cut is a member
+  pub compose_cut : {v : Zone} → compose z w ≡ Some v → (x y : Time) → In v x y → (t : Time) × In z x t × In w t y
+  compose_cut e x y p = (compose_members h k x y).0 (subst (λ (r : Option Zone). InMaybe r x y) (sym e) p)
 
-  pub compose_glue : (x t y : Time) → In z x t → In w t y → (v : Zone) × (compose z w ≡ zone v) × In v x y
-  compose_glue x t y p q = settle (compose z w) _ (λ v e. (v, e, subst (λ (r : MaybeZone). InMaybe r x y) e m)) (λ e. absurd (subst (λ (r : MaybeZone). InMaybe r x y) e m))
+  pub compose_glue : (x t y : Time) → In z x t → In w t y → (v : Zone) × (compose z w ≡ Some v) × In v x y
+  compose_glue x t y p q = settle (compose z w) _ (λ v e. (v, e, subst (λ (r : Option Zone). InMaybe r x y) e m)) (λ e. absurd (subst (λ (r : Option Zone). InMaybe r x y) e m))
     where
       m : InMaybe (compose z w) x y
       m = (compose_members h k x y).1 (t, p, q)
 
-  -- Empty exactly when no end of the left is a start of the right
-  pub compose_empty : (compose z w ≡ empty) ↔ ((x t y : Time) → In z x t → In w t y → ⊥)
+  -- None exactly when no end of the left is a start of the right
+  pub compose_empty : (compose z w ≡ None) ↔ ((x t y : Time) → In z x t → In w t y → ⊥)
   compose_empty = (
     λ e x t y p q. let g = compose_glue x t y p q in no_zone (sym e ∙ g.1),
-    λ f. settle (compose z w) (compose z w ≡ empty)
+    λ f. settle (compose z w) (compose z w ≡ None)
         (λ v e. let m = tight_member (subst TightMaybe e (compose_tight h k)) in let c = compose_cut e m.0 m.1 m.2 in absurd (f m.0 c.0 m.1 c.1 c.2))
         (λ e. e),
   )
 
-pub proper_compose : {from to : ℕ} {z w x : Zone} → Proper from to z → Proper from to w → compose z w ≡ zone x → Proper from to x
+pub proper_compose : {from to : ℕ} {z w x : Zone} → Proper from to z → Proper from to w → compose z w ≡ Some x → Proper from to x
 proper_compose {z} {w} p q e =
     record {
       tight = subst TightMaybe e (compose_tight p.tight q.tight);
@@ -203,7 +204,7 @@ same_zone? z w = go (contains z w) (contains w z) refl refl
 -- ==== 6. For the bound on rounds, and for the machine's numbers
 
 -- composition is monotone in its left argument
-pub compose_mono : {z v w x : Zone} → Tight z → Tight v → Tight w → T (contains v z) → compose z w ≡ zone x → (y : Zone) × (compose v w ≡ zone y) × T (contains y x)
+pub compose_mono : {z v w x : Zone} → Tight z → Tight v → Tight w → T (contains v z) → compose z w ≡ Some x → (y : Zone) × (compose v w ≡ Some y) × T (contains y x)
 compose_mono {z} {v} {w} {x} hz hv hw c e =
     let hx = subst TightMaybe e (compose_tight hz hw) in
     let m = tight_member hx in
@@ -213,14 +214,14 @@ compose_mono {z} {v} {w} {x} hz hv hw c e =
       g.1,
       (contains_members g.0 hx).1
           (λ s t p. let q = compose_cut hz hw e s t p in
-          subst (λ (r : MaybeZone). InMaybe r s t) g.1 ((compose_members hv hw s t).1 (q.0, contains_in v z c s q.0 q.1, q.2))),
+          subst (λ (r : Option Zone). InMaybe r s t) g.1 ((compose_members hv hw s t).1 (q.0, contains_in v z c s q.0 q.1, q.2))),
     )
 
 -- `Extends z u`: u may be z composed with more zones
 pub extends_refl : (z : Zone) → Extends z z
 extends_refl = lengths.extends_refl
 
-module _ {z w x : Zone} (h : Tight z) (k : Tight w) (e : compose z w ≡ zone x) where
+module _ {z w x : Zone} (h : Tight z) (k : Tight w) (e : compose z w ≡ Some x) where
   new : ¬ T (contains z x) → ¬ (across z w ⊑ z)
   new n i = n ((contains-⊑ z x).1 (subst (λ (j : Zone). j ⊑ z) (composed z w e) i))
 
@@ -235,7 +236,7 @@ module _ {z w x : Zone} (h : Tight z) (k : Tight w) (e : compose z w ≡ zone x)
   span_some n = lengths.span_some z w (tight_is.0 k) (new n)
 
   -- where the right zone is composed again later on, with a result that does not lie inside x, the first time adds its whole length
-  pub span_adds : {u v : Zone} → Extends x u → compose u w ≡ zone v → ¬ T (contains x v) → span z + span w ≤ span x
+  pub span_adds : {u v : Zone} → Extends x u → compose u w ≡ Some v → ¬ T (contains x v) → span z + span w ≤ span x
   span_adds {u} {v} f g n =
       subst (λ (j : Zone). span z + span w ≤ span j) (composed z w e)
       (lengths.span_adds z w u (tight_is.0 h) (tight_is.0 k) (subst (λ (j : Zone). Extends j u) (sym (composed z w e)) f)
@@ -297,11 +298,11 @@ proper_diagonal from to h =
 pub proper_everything : (from to : ℕ) → from ≤ to → Proper from to (everything from to)
 proper_everything from to h = record { tight = (everything_means from to refl).tight h; inside = record { inside = λ x y p. (everything_members from to x y).0 p } }
 
-pub proper_band : (from to : ℕ) (longest shortest : Limit) {z : Zone} → band from to longest shortest ≡ zone z → Proper from to z
+pub proper_band : (from to : ℕ) (longest shortest : Limit) {z : Zone} → band from to longest shortest ≡ Some z → Proper from to z
 proper_band from to longest shortest e =
     record {
       tight = (band_means from to longest shortest (sym e)).tight;
-      inside = record { inside = λ x y p. ((band_members from to longest shortest x y).0 (subst (λ (r : MaybeZone). InMaybe r x y) (sym e) p)).0 };
+      inside = record { inside = λ x y p. ((band_members from to longest shortest x y).0 (subst (λ (r : Option Zone). InMaybe r x y) (sym e) p)).0 };
     }
 
 pos_sub : (from : ℕ) {to : ℕ} → from ≤ to → pos to -ℤ pos from ≡ pos (to - from)

@@ -1,12 +1,13 @@
 -- What the bound on the rounds of a star needs of composition: how the limit on the length grows from left to right. `span` is the whole
 -- number of that limit; `Extends z u` says that u may be z composed with more zones: only its limits on end and length may be higher.
+use Rattle.std.specs.Prelude.{Some}
 use mathlib.Core.Path.{◌≡◌, refl, sym, subst}
 use mathlib.Core.Bool.{Bool, true, false}
 use Prim.Native.Nat.{ℕ, zero, suc, ◌+◌, ◌≤◌, min}
 use native.Mathlib.Omega.{arith}
 use Rattle.limit.specs.declared.Limit.{Limit}
 use Rattle.limit.specs.Limit.{at_most, ◌≤ᴸ◌, ◌⊕◌, lesser, nought}
-use Rattle.zone.specs.Zone.{Zone, zone, where_room, across, compose}
+use Rattle.zone.specs.Zone.{Zone, where_room, across, compose}
 use Rattle.limit.proofs.Linear.{up, dn, un_le, le_lin, lin_le, sum_ud, sum_un, one_side, nought_up, nought_dn, nought_un}
 use Rattle.limit.proofs.Order.{≤-refl, ≤_trans, not≤, ⊕-mono, ⊕-comm, ⊕-assoc, lesser_l, lesser_r, lesser_of}
 use Rattle.zone.proofs.Closed.{Closed}
@@ -61,11 +62,11 @@ dec l m = go (at_most l m) refl
 
 -- ---- a composition that is not empty is what the two zones leave of start and end
 
-pub composed : (z w : Zone) {x : Zone} → compose z w ≡ zone x → across z w ≡ x
+pub composed : (z w : Zone) {x : Zone} → compose z w ≡ Some x → across z w ≡ x
 unfolding compose
 composed z w {x} =
-    room_is w.nstart z.end (where_room z.nend w.start (zone (across z w))) (λ r. r ≡ zone x → across z w ≡ x)
-    (λ _. room_is z.nend w.start (zone (across z w)) (λ r. r ≡ zone x → across z w ≡ x) (λ _ e. cc) (λ _ e. absurd (let f : ◌≡◌ {A = ℕ} 0 1 = cc in omega arith)))
+    room_is w.nstart z.end (where_room z.nend w.start (Some (across z w))) (λ r. r ≡ Some x → across z w ≡ x)
+    (λ _. room_is z.nend w.start (Some (across z w)) (λ r. r ≡ Some x → across z w ≡ x) (λ _ e. cc) (λ _ e. absurd (let f : ◌≡◌ {A = ℕ} 0 1 = cc in omega arith)))
     (λ _ e. absurd (let f : ◌≡◌ {A = ℕ} 0 1 = cc in omega arith))
 
 module _ (z w : Zone) (hw : Closed w) where

@@ -1,9 +1,10 @@
 -- What the operations and the zones to begin with mean for members, in the form of the functions' contracts.
+use Rattle.std.specs.Prelude.{Option}
 use mathlib.Core.Path.{◌≡◌, sym, subst}
 use mathlib.Core.Bool.{Bool}
 use Prim.Native.Nat.{ℕ}
 use Rattle.limit.specs.declared.Limit.{Limit}
-use Rattle.zone.specs.Zone.{Zone, MaybeZone, tighten, meet, compose, contains, run, diagonal, everything, band, Tightens, Meets, Composes, Contains, IsRun, IsDiagonal, IsEverything, IsBand}
+use Rattle.zone.specs.Zone.{Zone, tighten, meet, compose, contains, run, diagonal, everything, band, Tightens, Meets, Composes, Contains, IsRun, IsDiagonal, IsEverything, IsBand}
 use Rattle.zone.proofs.Tighten.{tighten_is, tighten_tight, meet_is, meet_tight}
 use Rattle.zone.proofs.Compose.{compose_is}
 use Rattle.zone.proofs.Across.{compose_tight}
@@ -12,13 +13,13 @@ use Rattle.zone.proofs.Begin.{run_members, run_closed, diagonal_members, diagona
 
 -- ---- the operations
 
-pub tighten_means : (z : Zone) {r : MaybeZone} → r ≡ tighten z → Tightens z r
+pub tighten_means : (z : Zone) {r : Option Zone} → r ≡ tighten z → Tightens z r
 tighten_means z e = subst (Tightens z) (sym e) (record { members = λ x y. tighten_is x y z; tight = λ h k. tight_maybe (tighten z) (tighten_tight z h k) })
 
-pub meet_means : (z w : Zone) {r : MaybeZone} → r ≡ meet z w → Meets z w r
+pub meet_means : (z w : Zone) {r : Option Zone} → r ≡ meet z w → Meets z w r
 meet_means z w e = subst (Meets z w) (sym e) (record { members = λ x y. meet_is x y z w; tight = λ h. tight_maybe (meet z w) (meet_tight w (tight_is.0 h)) })
 
-pub compose_means : (z w : Zone) {r : MaybeZone} → r ≡ compose z w → Composes z w r
+pub compose_means : (z w : Zone) {r : Option Zone} → r ≡ compose z w → Composes z w r
 compose_means z w e =
     subst (Composes z w) (sym e)
     (record { members = λ h k. compose_is (tight_is.0 h) (tight_is.0 k); tight = λ h k. tight_maybe (compose z w) (compose_tight (tight_is.0 h) (tight_is.0 k)) })
@@ -45,7 +46,7 @@ module _ (from to : ℕ) where
   pub everything_means : {r : Zone} → r ≡ everything from to → IsEverything from to r
   everything_means e = subst (IsEverything from to) (sym e) (record { members = everything_members from to; tight = λ h. tight_is.1 (everything_closed from to h) })
 
-  pub band_means : (longest shortest : Limit) {r : MaybeZone} → r ≡ band from to longest shortest → IsBand from to longest shortest r
+  pub band_means : (longest shortest : Limit) {r : Option Zone} → r ≡ band from to longest shortest → IsBand from to longest shortest r
   band_means longest shortest e =
       subst (IsBand from to longest shortest) (sym e)
       (record { members = band_members from to longest shortest; tight = tight_maybe (band from to longest shortest) (band_closed from to longest shortest) })

@@ -1,10 +1,11 @@
 -- The steps of the functions' code: what a test that was passed or failed says of the definition.
+use Rattle.std.specs.Prelude.{Option, Some, None}
 use mathlib.Core.Path.{◌≡◌, refl, sym, ap, subst, ◌∙◌}
 use mathlib.Core.Bool.{Bool, true, false, not, cond}
 use lib.Dec.{T}
 use Rattle.limit.specs.declared.Limit.{Limit}
 use Rattle.limit.specs.Limit.{at_most, ◌≤ᴸ◌, ◌⊕◌, nought}
-use Rattle.zone.specs.Zone.{Zone, MaybeZone, zone, empty, where_room, tighter, tighten}
+use Rattle.zone.specs.Zone.{Zone, where_room, tighter, tighten}
 
 pub is_false : {b : Bool} → not b ≡ true → b ≡ false
 is_false {b = true} e = sym e
@@ -14,14 +15,14 @@ pub is_true : {b : Bool} → not b ≡ false → b ≡ true
 is_true {b = true} e = refl
 is_true {b = false} e = sym e
 
-module _ (l m : Limit) (a : MaybeZone) {b : Bool} (e : b ≡ at_most nought (l ⊕ m)) where
-  pub no_room : b ≡ false → empty ≡ where_room l m a
+module _ (l m : Limit) (a : Option Zone) {b : Bool} (e : b ≡ at_most nought (l ⊕ m)) where
+  pub no_room : b ≡ false → None ≡ where_room l m a
   unfolding where_room
-  no_room t = ap (λ (c : Bool). cond c a empty) (sym t ∙ e)
+  no_room t = ap (λ (c : Bool). cond c a None) (sym t ∙ e)
 
   pub has_room : b ≡ true → a ≡ where_room l m a
   unfolding where_room
-  has_room t = ap (λ (c : Bool). cond c a empty) (sym t ∙ e)
+  has_room t = ap (λ (c : Bool). cond c a None) (sym t ∙ e)
 
 -- the same by the order
 module _ (l m : Limit) {b : Bool} (e : b ≡ at_most nought (l ⊕ m)) where
@@ -32,9 +33,9 @@ module _ (l m : Limit) {b : Bool} (e : b ≡ at_most nought (l ⊕ m)) where
   leaves_room t = record { le = subst T (sym t ∙ e) tt }
 
 -- the last step of tightening, from the tighter zone
-unfoldable pub checked : Zone → MaybeZone
-checked t = where_room t.start t.nstart (where_room t.end t.nend (where_room t.length t.nlength (zone t)))
+unfoldable pub checked : Zone → Option Zone
+checked t = where_room t.start t.nstart (where_room t.end t.nend (where_room t.length t.nlength (Some t)))
 
-pub tighten_checked : (z : Zone) {t : Zone} {r : MaybeZone} → t ≡ tighter z → r ≡ checked t → r ≡ tighten z
+pub tighten_checked : (z : Zone) {t : Zone} {r : Option Zone} → t ≡ tighter z → r ≡ checked t → r ≡ tighten z
 unfolding checked tighten
 tighten_checked z e f = f ∙ ap checked e

@@ -1,5 +1,6 @@
 -- Tight, which is said by its meaning, is the closed form on limits. So inclusion of zones is the order of their limits, and a tight zone
 -- is known by its members.
+use Rattle.std.specs.Prelude.{Option, Some, None}
 use mathlib.Core.Path.{◌≡◌, ap}
 use mathlib.Core.Bool.{Bool, true, false, ◌&&◌}
 use mathlib.Core.Logic.{◌↔◌}
@@ -12,7 +13,7 @@ use Rattle.limit.specs.Time.{Time, origin}
 use Rattle.limit.specs.declared.Limit.{Limit}
 use Rattle.limit.specs.declared.Limit.TheVariants.{AtMost, Below}
 use Rattle.limit.specs.Limit.{at_most, ◌≤ᴸ◌, value}
-use Rattle.zone.specs.Zone.{Zone, In, MaybeZone, zone, empty, Side, on-start, on-nstart, on-end, on-nend, on-length, on-nlength, limit, Loses, Tight, TightMaybe, contains}
+use Rattle.zone.specs.Zone.{Zone, In, Side, on-start, on-nstart, on-end, on-nend, on-length, on-nlength, limit, Loses, Tight, TightMaybe, contains}
 use Rattle.limit.proofs.Linear.{up, dn, un, un_le, le_lin}
 use Rattle.limit.proofs.Common.{through, round, both_den, within_through, within-≤, from_0}
 use Rattle.zone.proofs.Common.{InOver, in_ground}
@@ -64,9 +65,9 @@ module _ {z : Zone} (h : Tight z) where
 pub tight_is : {z : Zone} → Tight z ↔ Closed z
 tight_is = (tight_closed, λ h. record { sharp = sharp h })
 
-pub tight_maybe : (r : MaybeZone) → ClosedMaybe r → TightMaybe r
-tight_maybe (zone z) h = tight_is.1 h
-tight_maybe empty h = tt
+pub tight_maybe : (r : Option Zone) → ClosedMaybe r → TightMaybe r
+tight_maybe (Some z) h = tight_is.1 h
+tight_maybe None h = tt
 
 -- ---- inclusion
 

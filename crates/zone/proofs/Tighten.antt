@@ -1,4 +1,5 @@
 -- Tightening keeps the members, and its answer is tight; the meet holds what both zones hold.
+use Rattle.std.specs.Prelude.{Option, Some, None}
 use mathlib.Core.Path.{◌≡◌, refl, sym, ap, ◌∙◌}
 use mathlib.Core.Bool.{cond}
 use mathlib.Core.Logic.{◌↔◌}
@@ -7,16 +8,16 @@ use lib.Dec.{T_not}
 use Rattle.limit.specs.Time.{Time}
 use Rattle.limit.specs.declared.Limit.{Limit}
 use Rattle.limit.specs.Limit.{at_most, ◌≤ᴸ◌, ◌⊕◌, lesser, nought}
-use Rattle.zone.specs.Zone.{Zone, In, MaybeZone, zone, empty, InMaybe, where_room, both, tighter, tighten, meet}
+use Rattle.zone.specs.Zone.{Zone, In, InMaybe, where_room, both, tighter, tighten, meet}
 use Rattle.zone.proofs.Closed.{Closed, ClosedMaybe}
 use Rattle.limit.proofs.Linear.{test}
 use Rattle.zone.proofs.Common.{in_ground, InOver}
 use Rattle.limit.proofs.Common.{both_den, KeepsOver, widen, through, round}
 use Rattle.limit.proofs.Order.{≤_trans, flip, ⊕-mono, fst, snd, keep_l, lesser_l, lesser_r, lesser_of, lesser_2}
 
-pub room_is : (l m : Limit) (a : MaybeZone) (P : MaybeZone → Type 0) → (nought ≤ᴸ l ⊕ m → P a) → (¬ (nought ≤ᴸ l ⊕ m) → P empty) → P (where_room l m a)
+pub room_is : (l m : Limit) (a : Option Zone) (P : Option Zone → Type 0) → (nought ≤ᴸ l ⊕ m → P a) → (¬ (nought ≤ᴸ l ⊕ m) → P None) → P (where_room l m a)
 unfolding where_room
-room_is l m a P f g = test (at_most nought (l ⊕ m)) (λ c. P (cond c a empty)) (λ t. f (record { le = t })) (λ t. g (λ h. T_not (at_most nought (l ⊕ m)) t h.le))
+room_is l m a P f g = test (at_most nought (l ⊕ m)) (λ c. P (cond c a None)) (λ t. f (record { le = t })) (λ t. g (λ h. T_not (at_most nought (l ⊕ m)) t h.le))
 
 -- ---- over a common denominator
 
@@ -95,10 +96,10 @@ module _ (x y : Time) where
   unfolding tighten
   tighten_is z =
       let t = tighter z in
-      let P : MaybeZone → Type 0 = λ a. InMaybe a x y ↔ In z x y in
-      room_is t.start t.nstart (where_room t.end t.nend (where_room t.length t.nlength (zone t))) P
-      (λ _. room_is t.end t.nend (where_room t.length t.nlength (zone t)) P
-      (λ _. room_is t.length t.nlength (zone t) P
+      let P : Option Zone → Type 0 = λ a. InMaybe a x y ↔ In z x y in
+      room_is t.start t.nstart (where_room t.end t.nend (where_room t.length t.nlength (Some t))) P
+      (λ _. room_is t.end t.nend (where_room t.length t.nlength (Some t)) P
+      (λ _. room_is t.length t.nlength (Some t) P
       (λ _. (λ h. (in_ground x y).1 (⊑-at (both_den x y) (tighter-⊑ z) ((in_ground x y).0 h)), λ h. (in_ground x y).1 (tighter_at z ((in_ground x y).0 h))))
       (λ n. (λ h. absurd h, λ h. absurd (n (round (both_den x y) (through (tighter_at z ((in_ground x y).0 h)).length (tighter_at z ((in_ground x y).0 h)).nlength))))))
       (λ n. (λ h. absurd h, λ h. absurd (n (round (both_den x y) (through (tighter_at z ((in_ground x y).0 h)).end (tighter_at z ((in_ground x y).0 h)).nend))))))
@@ -169,9 +170,9 @@ pub tighten_tight : (z : Zone) → z.nstart ≤ᴸ nought → z.nlength ≤ᴸ n
 unfolding tighten
 tighten_tight z p q =
     let t = tighter z in
-    room_is t.start t.nstart (where_room t.end t.nend (where_room t.length t.nlength (zone t))) ClosedMaybe
-    (λ a. room_is t.end t.nend (where_room t.length t.nlength (zone t)) ClosedMaybe
-    (λ b. room_is t.length t.nlength (zone t) ClosedMaybe (λ c. tighter_tight z p q a b c) (λ n. tt))
+    room_is t.start t.nstart (where_room t.end t.nend (where_room t.length t.nlength (Some t))) ClosedMaybe
+    (λ a. room_is t.end t.nend (where_room t.length t.nlength (Some t)) ClosedMaybe
+    (λ b. room_is t.length t.nlength (Some t) ClosedMaybe (λ c. tighter_tight z p q a b c) (λ n. tt))
     (λ n. tt))
     (λ n. tt)
 
@@ -197,21 +198,21 @@ tighter_same h =
       nlength = lesser_same h.nlength i;
     }
 
-room_same : (l m : Limit) {a : MaybeZone} → nought ≤ᴸ l ⊕ m → where_room l m a ≡ a
+room_same : (l m : Limit) {a : Option Zone} → nought ≤ᴸ l ⊕ m → where_room l m a ≡ a
 room_same l m {a} h = room_is l m a (λ r. r ≡ a) (λ _. refl) (λ n. absurd (n h))
 
-pub tighten_same : {z : Zone} → Closed z → tighten z ≡ zone z
+pub tighten_same : {z : Zone} → Closed z → tighten z ≡ Some z
 unfolding tighten
 tighten_same {z} h =
-    ap (λ (t : Zone). where_room t.start t.nstart (where_room t.end t.nend (where_room t.length t.nlength (zone t)))) (tighter_same h)
+    ap (λ (t : Zone). where_room t.start t.nstart (where_room t.end t.nend (where_room t.length t.nlength (Some t)))) (tighter_same h)
     ∙ room_same z.start z.nstart h.round_start ∙ room_same z.end z.nend h.round_end ∙ room_same z.length z.nlength h.round_length
 
 -- ---- a test for room that comes first changes no answer: higher limits leave no less room than lower ones
 
-room_first : {l m l' m' : Limit} (a : MaybeZone) → l ≤ᴸ l' → m ≤ᴸ m' → where_room l' m' (where_room l m a) ≡ where_room l m a
+room_first : {l m l' m' : Limit} (a : Option Zone) → l ≤ᴸ l' → m ≤ᴸ m' → where_room l' m' (where_room l m a) ≡ where_room l m a
 room_first {l} {m} {l'} {m'} a g h =
     room_is l' m' (where_room l m a) (λ r. r ≡ where_room l m a) (λ _. refl)
-    (λ n. sym (room_is l m a (λ r. r ≡ empty) (λ p. absurd (n (≤_trans p (⊕-mono g h)))) (λ _. refl)))
+    (λ n. sym (room_is l m a (λ r. r ≡ None) (λ p. absurd (n (≤_trans p (⊕-mono g h)))) (λ _. refl)))
 
 tighten_first : (z : Zone) {l m : Limit} → z.start ≤ᴸ l → z.nstart ≤ᴸ m → where_room l m (tighten z) ≡ tighten z
 unfolding tighten

@@ -1,12 +1,10 @@
 -- Zones: their members, when they are tight, and the operations on them.
-use Rattle.std.specs.Prelude.{Bool, cond, ◌&&◌, ◌↔◌, ℕ, ◌≤◌, ◌<◌, T, pos, neg_ℤ, ◌-ℤ◌}
+use Rattle.std.specs.Prelude.{Bool, cond, ◌&&◌, ◌↔◌, ℕ, ◌≤◌, ◌<◌, T, pos, neg_ℤ, ◌-ℤ◌, Option, Some, None}
 use Rattle.limit.specs.Time.{Time, origin, at_tick, ◌≤ᵀ◌, ◌<ᵀ◌, ◌≈ᵀ◌}
 use Rattle.limit.specs.declared.Limit.{Limit}
 use Rattle.limit.specs.declared.Limit.TheVariants.{AtMost, Below}
 use Rattle.limit.specs.Limit.{Within, at_most, ◌≤ᴸ◌, ◌⊕◌, lesser, nought, most, least, Small}
 pub use Rattle.zone.specs.declared.Zone.{Zone}
-pub use Rattle.zone.specs.declared.MaybeZone.{MaybeZone}
-pub use Rattle.zone.specs.declared.MaybeZone.TheVariants.{Zone as zone, Empty as empty}
 
 -- ---- members
 
@@ -20,9 +18,9 @@ pub record In (z : Zone) (x y : Time) : Type 0 where
   pub nlength : Within z.nlength x y
 
 -- the stretch lies in what an operation answered
-abbrev pub InMaybe : MaybeZone → Time → Time → Type 0
-InMaybe (zone z) x y = In z x y
-InMaybe empty x y = ⊥
+abbrev pub InMaybe : Option Zone → Time → Time → Type 0
+InMaybe (Some z) x y = In z x y
+InMaybe None x y = ⊥
 
 -- "A stretch has start ≤ end, both in 0 to d": of ticks from..to
 abbrev pub Stretch : ℕ → ℕ → Time → Time → Type 0
@@ -90,9 +88,9 @@ pub record Loses (z : Zone) (k : Side) (m : Limit) : Type 0 where
 pub record Tight (z : Zone) : Type 0 where
   pub sharp : (k : Side) (m : Limit) → ¬ (limit z k ≤ᴸ m) → Loses z k m
 
-abbrev pub TightMaybe : MaybeZone → Type 0
-TightMaybe (zone z) = Tight z
-TightMaybe empty = Unit {0}
+abbrev pub TightMaybe : Option Zone → Type 0
+TightMaybe (Some z) = Tight z
+TightMaybe None = Unit {0}
 
 -- what each listed zone is: tight, and inside ticks from..to
 pub record Proper (from to : ℕ) (z : Zone) : Type 0 where
@@ -114,13 +112,13 @@ tighter z =
     }
 
 -- the answer a, where an upper limit l and the one m on the negated quantity leave room between them
-unfoldable pub where_room : Limit → Limit → MaybeZone → MaybeZone
-where_room l m a = cond (at_most nought (l ⊕ m)) a empty
+unfoldable pub where_room : Limit → Limit → Option Zone → Option Zone
+where_room l m a = cond (at_most nought (l ⊕ m)) a None
 
-unfoldable pub tighten : Zone → MaybeZone
+unfoldable pub tighten : Zone → Option Zone
 tighten z =
     let t = tighter z in
-    where_room t.start t.nstart (where_room t.end t.nend (where_room t.length t.nlength (zone t)))
+    where_room t.start t.nstart (where_room t.end t.nend (where_room t.length t.nlength (Some t)))
 
 -- ---- meet: the lesser limit on each side, tightened
 
@@ -135,7 +133,7 @@ both z w =
       nlength = lesser z.nlength w.nlength;
     }
 
-unfoldable pub meet : Zone → Zone → MaybeZone
+unfoldable pub meet : Zone → Zone → Option Zone
 meet z w = tighten (both z w)
 
 -- ---- composition: z from start to cut, w from cut to end. Each limit goes by the cut, or not by the cut, whichever is smaller
@@ -152,8 +150,8 @@ across z w =
     }
 
 -- empty where the ends of z and the starts of w leave no room for a cut
-unfoldable pub compose : Zone → Zone → MaybeZone
-compose z w = where_room w.nstart z.end (where_room z.nend w.start (zone (across z w)))
+unfoldable pub compose : Zone → Zone → Option Zone
+compose z w = where_room w.nstart z.end (where_room z.nend w.start (Some (across z w)))
 
 -- ---- inclusion: no limit of w is above that of z
 
@@ -213,7 +211,7 @@ limited z longest shortest =
     }
 
 -- the stretches whose length keeps to both limits
-unfoldable pub band : ℕ → ℕ → Limit → Limit → MaybeZone
+unfoldable pub band : ℕ → ℕ → Limit → Limit → Option Zone
 band from to longest shortest = tighten (limited (everything from to) longest shortest)
 
 -- ---- what the machine's numbers have room for: every tight zone inside ticks 0..n is within n of 0
@@ -229,18 +227,18 @@ pub record Ranged (n : ℕ) (z : Zone) : Type 0 where
 -- ---- what the operations mean for members
 
 -- the answer to tightening z
-pub record Tightens (z : Zone) (r : MaybeZone) : Type 0 where
+pub record Tightens (z : Zone) (r : Option Zone) : Type 0 where
   pub members : (x y : Time) → InMaybe r x y ↔ In z x y
   pub tight : z.nstart ≤ᴸ nought → z.nlength ≤ᴸ nought → TightMaybe r
 
 -- the answer to z met with w: "both"
-pub record Meets (z w : Zone) (r : MaybeZone) : Type 0 where
+pub record Meets (z w : Zone) (r : Option Zone) : Type 0 where
   pub members : (x y : Time) → InMaybe r x y ↔ (In z x y × In w x y)
   pub tight : Tight z → TightMaybe r
 
 -- the answer to z composed with w: "every stretch with some cut, any fraction, whose left part lies in the first zone and right part in
 -- the second"
-pub record Composes (z w : Zone) (r : MaybeZone) : Type 0 where
+pub record Composes (z w : Zone) (r : Option Zone) : Type 0 where
   pub members : Tight z → Tight w → (x y : Time) → InMaybe r x y ↔ ((t : Time) × In z x t × In w t y)
   pub tight : Tight z → Tight w → TightMaybe r
 
@@ -266,6 +264,6 @@ pub record IsEverything (from to : ℕ) (z : Zone) : Type 0 where
   pub tight : from ≤ to → Tight z
 
 -- a band: "also lo ≤ end − start ≤ hi"
-pub record IsBand (from to : ℕ) (longest shortest : Limit) (r : MaybeZone) : Type 0 where
+pub record IsBand (from to : ℕ) (longest shortest : Limit) (r : Option Zone) : Type 0 where
   pub members : (x y : Time) → InMaybe r x y ↔ (Stretch from to x y × Within longest y x × Within shortest x y)
   pub tight : TightMaybe r

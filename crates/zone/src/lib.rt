@@ -23,13 +23,6 @@ pub struct Zone {
     pub nlength: Limit,
 }
 
-// What an operation answers: a tight zone, or that nothing is left.
-#[derive(Clone, Copy)]
-pub enum MaybeZone {
-    Zone(Zone),
-    Empty,
-}
-
 impl Zone {
     fn tighter(self) -> Zone
         requires { Ranged most_ticks self }
@@ -51,8 +44,8 @@ impl Zone {
         }
     }
 
-    // The same members with limits that cannot be lowered; Empty where there is no member.
-    pub fn tighten(self) -> MaybeZone
+    // The same members with limits that cannot be lowered; None where there is no member.
+    pub fn tighten(self) -> Option<Zone>
         requires { Ranged most_ticks self }
         ensures value { result ≡ tighten self }
         ensures meaning { Tightens self result }
@@ -61,19 +54,19 @@ impl Zone {
         let s = t.start;
         let ns = t.nstart;
         if !s.leaves_room(ns) {
-            return MaybeZone::Empty;
+            return None;
         }
         let e = t.end;
         let ne = t.nend;
         if !e.leaves_room(ne) {
-            return MaybeZone::Empty;
+            return None;
         }
         let l = t.length;
         let nl = t.nlength;
         if !l.leaves_room(nl) {
-            return MaybeZone::Empty;
+            return None;
         }
-        MaybeZone::Zone(t)
+        Some(t)
     }
 
     // The lesser limit on each side.
@@ -103,8 +96,8 @@ impl Zone {
         }
     }
 
-    // The stretches of both. Zones whose starts lie apart, as most of two long lists do, are Empty at once.
-    pub fn meet(self, other: Zone) -> MaybeZone
+    // The stretches of both. Zones whose starts lie apart, as most of two long lists do, have none at once.
+    pub fn meet(self, other: Zone) -> Option<Zone>
         requires { (Ranged most_ticks self) × (Ranged most_ticks other) }
         ensures value { result ≡ meet self other }
         ensures meaning { Meets self other result }
@@ -112,12 +105,12 @@ impl Zone {
         let starts = self.start;
         let other_nstarts = other.nstart;
         if !other_nstarts.leaves_room(starts) {
-            return MaybeZone::Empty;
+            return None;
         }
         let nstarts = self.nstart;
         let other_starts = other.start;
         if !other_starts.leaves_room(nstarts) {
-            return MaybeZone::Empty;
+            return None;
         }
         self.both(other).tighten()
     }
@@ -151,7 +144,7 @@ impl Zone {
     }
 
     // The stretches that a cut divides into one of this zone and one of the other. Nothing is left to tighten.
-    pub fn compose(self, other: Zone) -> MaybeZone
+    pub fn compose(self, other: Zone) -> Option<Zone>
         requires { (Ranged most_ticks self) × (Ranged most_ticks other) }
         ensures value { result ≡ compose self other }
         ensures meaning { Composes self other result }
@@ -159,14 +152,14 @@ impl Zone {
         let ends = self.end;
         let nstarts = other.nstart;
         if !nstarts.leaves_room(ends) {
-            return MaybeZone::Empty;
+            return None;
         }
         let nends = self.nend;
         let starts = other.start;
         if !starts.leaves_room(nends) {
-            return MaybeZone::Empty;
+            return None;
         }
-        MaybeZone::Zone(self.across(other))
+        Some(self.across(other))
     }
 
     // Whether every stretch of the other zone, which is tight, lies in this one.
@@ -271,9 +264,9 @@ impl Zone {
         }
     }
 
-    // The stretches within ticks from..to whose length keeps to a limit on end − start and one on start − end; Empty
+    // The stretches within ticks from..to whose length keeps to a limit on end − start and one on start − end; None
     // where there is none. Where some length is left, only the latest start and the earliest end are still to be tightened.
-    pub fn band(from: u32, to: u32, longest: Limit, shortest: Limit) -> MaybeZone
+    pub fn band(from: u32, to: u32, longest: Limit, shortest: Limit) -> Option<Zone>
         requires { (from ≤ most_ticks) × (to ≤ most_ticks) × (Small most_ticks longest) × (Small most_ticks shortest) }
         ensures value { result ≡ band from to longest shortest }
         ensures meaning { IsBand from to longest shortest result }
@@ -286,9 +279,9 @@ impl Zone {
         let l = z.length;
         let nl = z.nlength;
         if !l.leaves_room(nl) {
-            return MaybeZone::Empty;
+            return None;
         }
-        MaybeZone::Zone(Zone {
+        Some(Zone {
             start: s.or_sum(nl, e),
             nstart: ns,
             end: e,

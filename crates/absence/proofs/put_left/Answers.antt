@@ -13,16 +13,16 @@ returns-in_default c =
     }
 
 pub write_zone-requires : goal.write_zone-requires
-write_zone-requires c = (omega arith, ranged (rw c.in-Zone.is at c.requires.1).0)
+write_zone-requires c = (omega arith, ranged (rw c.in-Some.is at c.requires.1).0)
 
 pub grow_apart-requires : goal.grow_apart-requires
 grow_apart-requires c =
-    let z = c.in-Zone.z in
-    (c.requires.0, rw (held z _ c.write_zone.ensures (omega arith)) (rw c.in-Zone.is at c.requires.1).1)
+    let z = c.in-Some.z in
+    (c.requires.0, rw (held z _ c.write_zone.ensures (omega arith)) (rw c.in-Some.is at c.requires.1).1)
 
 pub returns : goal.returns
 returns c =
     record {
-      grown = rw c.in-Zone.is (rw (held c.in-Zone.z _ c.write_zone.ensures (omega arith)) at c.grow_apart.ensures.grown);
+      grown = rw c.in-Some.is (rw (held c.in-Some.z _ c.write_zone.ensures (omega arith)) at c.grow_apart.ensures.grown);
       kept = c.grow_apart.ensures.kept;
     }

@@ -1,4 +1,5 @@
-use Rattle.std.proofs.Common.{arith, rules}
+use Rattle.std.proofs.Common.{arith}
+use Rattle.std.proofs.lemmas.Result.{err_from_is_err_and}
 use Rattle.absence.proofs.Alternating.{alternating_start, next_ready, alternating_kept, alternating_overflow, alternating_on, bring_ready, alternating_end}
 use Rattle.absence.proofs.without_each.Goals as goal
 
@@ -20,26 +21,19 @@ overflow_add-base c = omega (arith, c.requires.room, c.requires.list.few, c.loop
 pub without-requires : goal.without-requires
 without-requires c = next_ready c.requires c.loop-i.invariant c.loop-i-test.true
 
-pub shape_of-words-in_default : goal.shape_of-words-in_default
-shape_of-words-in_default c =
-    (alternating_kept c.requires c.loop-i.invariant c.loop-i-test.true c.without.ensures.kept).same_length
-
-pub returns-in_default : goal.returns-in_default
-returns-in_default c = record {
-  built = alternating_overflow c.requires c.loop-i.invariant c.loop-i-test.true c.without.ensures.kept (rw c.in_default.is at c.without.ensures.built);
-  kept = alternating_kept c.requires c.loop-i.invariant c.loop-i-test.true c.without.ensures.kept;
-}
+pub returns-in_err-count : goal.returns-in_err-count
+returns-in_err-count c =
+    let p = err_from_is_err_and c.from_residual.result c.from_residual.ensures.1 in record {
+      built = rw p.1 (alternating_overflow c.requires c.loop-i.invariant c.loop-i-test.true c.without.ensures.kept c.in_err-count.ensures.built);
+      kept = alternating_kept c.requires c.loop-i.invariant c.loop-i-test.true c.without.ensures.kept;
+    }
 
 pub loop-i-preserved : goal.loop-i-preserved
 loop-i-preserved c =
-    alternating_on c.requires c.loop-i.invariant c.loop-i-test.true c.without.ensures.kept (rw c.in-Count.is at c.without.ensures.built)
+    rw (c.swap.ensures.x_after, c.swap.ensures.y_after) (alternating_on c.requires c.loop-i.invariant c.loop-i-test.true c.without.ensures.kept c.in_ok-count.ensures.built)
 
 pub bring-requires : goal.bring-requires
 bring-requires c = bring_ready c.requires c.loop-i.invariant
 
-pub shape_of-words : goal.shape_of-words
-shape_of-words c =
-    (alternating_end c.requires c.loop-i.invariant (search rules) c.bring.ensures.list c.bring.ensures.kept).1.same_length
-
 pub returns : goal.returns
-returns c = let both = alternating_end c.requires c.loop-i.invariant (search rules) c.bring.ensures.list c.bring.ensures.kept in record { built = both.0; kept = both.1 }
+returns c = let both = alternating_end c.requires c.loop-i.invariant (omega arith) c.bring.ensures.list c.bring.ensures.kept in record { built = both.0; kept = both.1 }

@@ -7,23 +7,11 @@ use Rattle.extremes.proofs.ends_of.Goals as goal
 pub loop-i-init : goal.loop-i-init
 loop-i-init c = none_seen c.requires.sound
 
-pub overflow_mul-i : goal.overflow_mul-i
-overflow_mul-i c = omega arith
-
-pub read_zone-z-requires : goal.read_zone-z-requires
-read_zone-z-requires c = omega arith
-
 pub compose-requires : goal.compose-requires
 compose-requires c = (
   rw c.diagonal-point.ensures.value (ranged_more c.requires.few (ranged (proper_diagonal _ _ (omega arith)))),
   rw c.read_zone-z.ensures (ranged (proper_next c.loop-i.invariant (omega arith))),
 )
-
-pub overflow_add-i : goal.overflow_add-i
-overflow_add-i c = omega arith
-
-pub loop-i-smaller : goal.loop-i-smaller
-loop-i-smaller c = omega arith
 
 pub loop-i-preserved : goal.loop-i-preserved
 loop-i-preserved c =

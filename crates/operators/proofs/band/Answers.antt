@@ -17,14 +17,14 @@ returns-in_default c = record {
 }
 
 pub write_zone-requires : goal.write_zone-requires
-write_zone-requires c = (omega arith, ranged (rw c.in-Zone.is at c.requires.1))
+write_zone-requires c = (omega arith, ranged (rw c.in-Some.is at c.requires.1))
 
 pub meets-requires : goal.meets-requires
 meets-requires c =
     let work = c.requires.0 in
-    let f = written_kept c.in-Zone.z _ _ work.scratch_free c.write_zone.ensures in
-    let alone = written_alone c.in-Zone.z _ _ work.scratch_free c.write_zone.ensures in
-    let sound = subst Sound (sym alone) (sound_one (rw c.in-Zone.is at c.requires.1)) in
+    let f = written_kept c.in-Some.z _ _ work.scratch_free c.write_zone.ensures in
+    let alone = written_alone c.in-Some.z _ _ work.scratch_free c.write_zone.ensures in
+    let sound = subst Sound (sym alone) (sound_one (rw c.in-Some.is at c.requires.1)) in
     record {
       lefts = record { list = still_source _ _ work.list f work.scratch_apart; slot = still_empty f work.target_free; apart = work.target_apart };
       rights =
@@ -39,9 +39,9 @@ pub returns : goal.returns
 unfolding banded meets
 returns c =
     let work = c.requires.0 in
-    let f = written_kept c.in-Zone.z _ _ work.scratch_free c.write_zone.ensures in
+    let f = written_kept c.in-Some.z _ _ work.scratch_free c.write_zone.ensures in
     let same = list_there c.args.source c.args.n f work.scratch_apart work.list.few in record {
-      built = rw c.in-Zone.is (rw (same, written_alone c.in-Zone.z _ _ work.scratch_free c.write_zone.ensures) at c.meets.ensures.built);
+      built = rw c.in-Some.is (rw (same, written_alone c.in-Some.z _ _ work.scratch_free c.write_zone.ensures) at c.meets.ensures.built);
       kept = kept_both f c.meets.ensures.kept;
       free = omega (arith, work.scratch_free, f.same_length, c.meets.ensures.kept.same_length);
     }

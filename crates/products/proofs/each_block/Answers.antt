@@ -1,80 +1,56 @@
-use Rattle.std.proofs.Common.{◌≡◌, ap, ◌∙◌, false, arith}
+use Rattle.std.proofs.Common.{◌≡◌, ◌*◌, ◌≤◌, ◌<◌, ap, false, arith}
+use Rattle.std.proofs.lemmas.Grind.{div_ceil_times}
+use Rattle.std.proofs.lemmas.Result.{err_from_is_err_and}
 use Rattle.list.proofs.Scan.{nothing_left}
-use Rattle.list.proofs.Slots.{kept_trans}
 use Rattle.pairs.proofs.Combining.{combining_start, combining_same, combining_end}
 use Rattle.pairs.proofs.Zones.{still_zones, proper_one}
 use Rattle.pairs.specs.Pairs.{beside}
 use Rattle.products.proofs.Blocks.{first_block, block_pairing, block_on, block_overflow, block_past}
 use Rattle.products.proofs.each_block.Goals as goal
+use Rattle.products.proofs.each_block.Goals.{In-loop-b, After-loop-b}
+
+-- block b has zones, as long as the loop goes on
+begun : (c : In-loop-b) → c.loop-b.b * 16 < c.args.m
+begun c = let t = div_ceil_times c.args.m 16 (omega arith) in omega (arith, c.div_ceil-b-end.ensures, t.1, c.loop-b-test.true)
+
+done : (c : After-loop-b) → c.args.m ≤ c.loop-b.b * 16
+done c = let t = div_ceil_times c.args.m 16 (omega arith) in omega (arith, c.div_ceil-b-end.ensures, t.0, c.loop-b-test.false)
 
 pub loop-b-init : goal.loop-b-init
-loop-b-init c = (omega arith, combining_same (first_block c.requires.0) (combining_start _ _ _ _ _ c.requires.0.stands))
+loop-b-init c = combining_same (first_block c.requires.0) (combining_start _ _ _ _ _ c.requires.0.stands)
 
-pub overflow_mul-b : goal.overflow_mul-b
-overflow_mul-b c = omega (arith, c.loop-b.invariant.0)
+pub reaches-requires : goal.reaches-requires
+reaches-requires c =
+    let one = still_zones c.requires.0.one c.loop-b.invariant.going.frame in
+    let l = begun (goal.at.reaches-requires c).In-loop-b in
+    (omega (arith, one.room), proper_one one, omega (arith, c.requires.2, l, c.requires.3))
 
-pub overflow_mul-at : goal.overflow_mul-at
-overflow_mul-at c = omega arith
-
-pub overflow_mul-at-in-loop-b : goal.overflow_mul-at-in-loop-b
-overflow_mul-at-in-loop-b c = omega arith
-
-pub overflow_add-at : goal.overflow_add-at
-overflow_add-at c = omega arith
-
-pub overflow_mul-b-in-loop-b : goal.overflow_mul-b-in-loop-b
-overflow_mul-b-in-loop-b c = omega arith
-
-pub overflow_sub-m : goal.overflow_sub-m
-overflow_sub-m c = omega arith
-
-pub reaches-reached-requires : goal.reaches-reached-requires
-reaches-reached-requires c =
-    let one = still_zones c.requires.0.one c.loop-b.invariant.1.going.frame in
-    (omega (arith, one.room), proper_one one, omega (arith, c.requires.2, c.loop-b-test.true, c.requires.3))
-
-pub overflow_add-b : goal.overflow_add-b
-overflow_add-b c = omega arith
-
-pub loop-b-smaller-then-not-reached : goal.loop-b-smaller-then-not-reached
-loop-b-smaller-then-not-reached c = omega (arith, c.loop-b-test.true, c.requires.3)
-
-pub loop-b-preserved-then-not-reached : goal.loop-b-preserved-then-not-reached
-loop-b-preserved-then-not-reached c =
-    let turn = c.loop-b.invariant.1 in
-    let e : c.reaches-reached.result ≡ false = c.if-not-reached.true in
-    (omega (arith, c.loop-b-test.true, c.requires.3), block_past c.requires.0 turn.going.frame _ c.loop-b-test.true turn c.requires.1 (rw e at c.reaches-reached.ensures))
+pub loop-b-preserved-then-not-reaches : goal.loop-b-preserved-then-not-reaches
+loop-b-preserved-then-not-reaches c =
+    let turn = c.loop-b.invariant in
+    let e : c.reaches.result ≡ false = c.if-not-reaches.true in
+    block_past c.requires.0 turn.going.frame _ (begun (goal.at.loop-b-preserved-then-not-reaches c).In-loop-b) turn c.requires.1 (rw e at c.reaches.ensures)
 
 pub each_right-requires : goal.each_right-requires
 each_right-requires c =
-    let turn = c.loop-b.invariant.1 in
-    rw c.block_size-k.ensures (block_pairing c.requires.0 turn.going.frame _ c.loop-b-test.true turn)
+    let turn = c.loop-b.invariant in
+    rw c.block_size-k.ensures (block_pairing c.requires.0 turn.going.frame _ (begun (goal.at.each_right-requires c).In-loop-b) turn)
 
-pub shape_of-words-in_default : goal.shape_of-words-in_default
-shape_of-words-in_default c = c.each_right.ensures.kept.same_length ∙ c.loop-b.invariant.1.going.frame.same_length
-
-pub returns-in_default : goal.returns-in_default
-returns-in_default c =
-    let turn = c.loop-b.invariant.1 in
-    let grown = rw (c.block_size-k.ensures, c.in_default.is) at c.each_right.ensures.grown in record {
-      grown = block_overflow c.requires.0 turn.going.frame _ c.loop-b-test.true turn grown;
-      kept = kept_trans turn.going.frame c.each_right.ensures.kept;
-    }
-
-pub loop-b-smaller : goal.loop-b-smaller
-loop-b-smaller c = omega (arith, c.loop-b-test.true, c.requires.3)
+pub returns-in_err-grown-clause-grown : goal.returns-in_err-grown-clause-grown
+returns-in_err-grown-clause-grown c =
+    let turn = c.loop-b.invariant in
+    let p = err_from_is_err_and c.from_residual.result c.from_residual.ensures.1 in
+    let full = rw c.block_size-k.ensures at c.in_err-grown.ensures.grown in
+    rw p.1 (block_overflow c.requires.0 turn.going.frame _ (begun (goal.at.returns-in_err-grown-clause-grown c).In-loop-b) turn full)
 
 pub loop-b-preserved : goal.loop-b-preserved
 loop-b-preserved c =
-    let turn = c.loop-b.invariant.1 in
-    let grown = rw (c.block_size-k.ensures, c.in-Grew.is) at c.each_right.ensures.grown in
-    (omega (arith, c.loop-b-test.true, c.requires.3), block_on c.requires.0 turn.going.frame _ c.loop-b-test.true turn grown c.each_right.ensures.kept)
-
-pub shape_of-words : goal.shape_of-words
-shape_of-words c = c.loop-b.invariant.1.going.frame.same_length
+    let turn = c.loop-b.invariant in
+    let grown = rw c.block_size-k.ensures at c.in_ok-grown.ensures.grown in
+    block_on c.requires.0 turn.going.frame _ (begun (goal.at.loop-b-preserved c).In-loop-b) turn grown c.in_ok-grown.ensures.kept
 
 pub returns : goal.returns
 returns c = record {
-  grown = combining_end (ap (beside _) (nothing_left _ _ _ _ c.loop-b-test.false)) c.loop-b.invariant.1;
-  kept = c.loop-b.invariant.1.going.frame;
+  grown = combining_end (ap (beside _) (nothing_left _ _ _ _ (done c))) c.loop-b.invariant;
+  kept = c.loop-b.invariant.going.frame;
 }

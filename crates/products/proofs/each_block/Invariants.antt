@@ -1,4 +1,4 @@
-use Rattle.std.proofs.Common.{◌+◌, ◌-◌, ◌*◌, ◌≤◌}
+use Rattle.std.proofs.Common.{◌+◌, ◌-◌, ◌*◌}
 use Rattle.list.specs.Slots.{list_at}
 use Rattle.pairs.proofs.Combining.{Combining}
 use Rattle.pairs.specs.Pairs.{beside}
@@ -6,7 +6,4 @@ use Rattle.words.specs.Words.{zone_at}
 use Rattle.products.proofs.each_block.Given as goal
 
 abbrev pub invariant-loop-b : goal.invariant-loop-b
-invariant-loop-b l = (l.b ≤ 8) × Combining l.op (beside (zone_at l.initial.words l.left) (list_at l.initial.words (l.right + l.b * 16 * 6) (l.m - l.b * 16))) (beside (zone_at l.initial.words l.left) (list_at l.initial.words l.right l.m)) l.initial.grown l.target l.initial.words l.words l.grown
-
-abbrev pub decreases-loop-b : goal.decreases-loop-b
-decreases-loop-b l = 8 - l.b
+invariant-loop-b l = Combining l.op (beside (zone_at l.initial.words l.left) (list_at l.initial.words (l.right + l.b * 16 * 6) (l.m - l.b * 16))) (beside (zone_at l.initial.words l.left) (list_at l.initial.words l.right l.m)) l.initial.grown l.target l.initial.words l.words l.grown

@@ -15,13 +15,13 @@ unreached x to m n e f h =
 
 pub loop-i-preserved : goal.loop-i-preserved
 loop-i-preserved c =
-    seek_on c.args.recording.now.recorded c.loop-i.invariant
+    seek_on c.args.recording.recorded c.loop-i.invariant
     (λ h. elim c.else-leaves_at-wanted.branch [
-      | else-leaves_at-wanted-via-then-leaves_at-wanted+else-reaches w ↦ absurd (unreached (begins c.args.recording.now.bytes.now c.loop-i.i) c.args.to _ _ w.reaches.ensures w.if-reaches.false h)
+      | else-leaves_at-wanted-via-then-leaves_at-wanted+else-reaches w ↦ absurd (unreached (begins c.args.recording.bytes.now c.loop-i.i) c.args.to _ _ w.reaches.ensures w.if-reaches.false h)
       | else-leaves_at-wanted-via-else-leaves_at-wanted w ↦ rw (← c.leaves_at.ensures) w.if-leaves_at-wanted.false
     ])
 
 pub returns : goal.returns
 returns c =
-    let r = c.args.recording.now.recorded in
+    let r = c.args.recording.recorded in
     seek_end r c.loop-i.invariant c.requires (omega (arith, c.loop-i-test.false, read_count r)) (omega (arith, c.max.ensures)) (omega (arith, c.max.ensures, read_count r))

@@ -1,11 +1,12 @@
 -- The latest start and the earliest end alone are tightened, where some length is left.
+use Rattle.std.specs.Prelude.{Some}
 use Rattle.std.proofs.Common.{◌≡◌, ap, subst, ◌∙◌, arith, rules}
 use Rattle.limit.specs.Limit.{◌≤ᴸ◌, ◌⊕◌, nought, most_ticks}
 use Rattle.zone.proofs.Bands.{shifted, no_length, some_length}
 use Rattle.zone.proofs.Means.{band_means}
 use Rattle.zone.proofs.Ranges.{ranged_limited, ranged_everything}
 use Rattle.zone.proofs.Steps.{lacks_room, leaves_room}
-use Rattle.zone.specs.Zone.{Zone, zone, everything, limited, Ranged}
+use Rattle.zone.specs.Zone.{Zone, everything, limited, Ranged}
 use Rattle.zone.proofs.Zone.band.Goals as goal
 use Rattle.zone.proofs.Zone.band.Goals.{After-limited-z}
 
@@ -45,7 +46,7 @@ returns-clause-value c =
     let limits = the-limited (goal.at.returns-clause-value c).After-limited-z in
     let z = c.limited-z.result in
     let moved : ◌≡◌ {A = Zone} (record { start = c.or_sum.result; nstart = z.nstart; end = z.end; nend = c.or_sum-2.result; length = z.length; nlength = z.nlength }) (shifted z) = λ i. record { start = c.or_sum.ensures i; nstart = z.nstart; end = z.end; nend = c.or_sum-2.ensures i; length = z.length; nlength = z.nlength } in
-    ap zone moved ∙ ap (λ (w : Zone). zone (shifted w)) limits
+    ap Some moved ∙ ap (λ (w : Zone). Some (shifted w)) limits
     ∙ some_length a.from a.to a.longest a.shortest
     (subst (λ (w : Zone). nought ≤ᴸ w.length ⊕ w.nlength) limits (leaves_room _ _ c.leaves_room.ensures c.if-not-leaves_room.false))
 

@@ -1,9 +1,10 @@
+use Rattle.std.specs.Prelude.{Some}
 use Rattle.std.proofs.Common.{ap, ◌∙◌}
 use Rattle.limit.proofs.Order.{⊕-comm}
 use Rattle.limit.specs.Limit.{at_most, nought}
 use Rattle.zone.proofs.Means.{compose_means}
 use Rattle.zone.proofs.Steps.{no_room, has_room}
-use Rattle.zone.specs.Zone.{zone, compose, across, where_room}
+use Rattle.zone.specs.Zone.{compose, across, where_room}
 use Rattle.zone.proofs.Zone.compose.Goals as goal
 
 pub returns-then-not-leaves_room-clause-value : goal.returns-then-not-leaves_room-clause-value
@@ -11,7 +12,7 @@ unfolding compose
 returns-then-not-leaves_room-clause-value c =
     let z = c.args.self in
     let w = c.args.other in
-    no_room _ _ (where_room z.nend w.start (zone (across z w))) c.leaves_room.ensures c.if-not-leaves_room.true
+    no_room _ _ (where_room z.nend w.start (Some (across z w))) c.leaves_room.ensures c.if-not-leaves_room.true
 
 pub returns-then-not-leaves_room-clause-meaning : goal.returns-then-not-leaves_room-clause-meaning
 unfolding compose
@@ -25,7 +26,7 @@ unfolding compose
 returns-then-not-leaves_room-2-clause-value c =
     let z = c.args.self in
     let w = c.args.other in
-    no_room _ _ (zone (across z w)) (c.leaves_room-2.ensures ∙ ap (at_most nought) (⊕-comm _ _)) c.if-not-leaves_room-2.true ∙ has_room _ _ (where_room z.nend w.start (zone (across z w))) c.leaves_room.ensures c.if-not-leaves_room.false
+    no_room _ _ (Some (across z w)) (c.leaves_room-2.ensures ∙ ap (at_most nought) (⊕-comm _ _)) c.if-not-leaves_room-2.true ∙ has_room _ _ (where_room z.nend w.start (Some (across z w))) c.leaves_room.ensures c.if-not-leaves_room.false
 
 pub returns-then-not-leaves_room-2-clause-meaning : goal.returns-then-not-leaves_room-2-clause-meaning
 unfolding compose
@@ -39,7 +40,7 @@ unfolding compose
 returns-clause-value c =
     let z = c.args.self in
     let w = c.args.other in
-    ap zone c.across.ensures ∙ has_room _ _ (zone (across z w)) (c.leaves_room-2.ensures ∙ ap (at_most nought) (⊕-comm _ _)) c.if-not-leaves_room-2.false ∙ has_room _ _ (where_room z.nend w.start (zone (across z w))) c.leaves_room.ensures c.if-not-leaves_room.false
+    ap Some c.across.ensures ∙ has_room _ _ (Some (across z w)) (c.leaves_room-2.ensures ∙ ap (at_most nought) (⊕-comm _ _)) c.if-not-leaves_room-2.false ∙ has_room _ _ (where_room z.nend w.start (Some (across z w))) c.leaves_room.ensures c.if-not-leaves_room.false
 
 pub returns-clause-meaning : goal.returns-clause-meaning
 unfolding compose

@@ -1,0 +1,12 @@
+use Rattle.pairs.proofs.Turns.{apart_empty, touched, untouched}
+use Rattle.zone.proofs.Laws.{ranged}
+use Rattle.pairs.proofs.combined.Goals as goal
+
+pub meet-requires : goal.meet-requires
+meet-requires c = rw (c.read_zone-z.ensures, c.read_zone-w.ensures) (ranged c.requires.2, ranged c.requires.3)
+
+pub returns-then-not-touches : goal.returns-then-not-touches
+returns-then-not-touches c = rw c.in-Compose.is (apart_empty c.requires.2 c.requires.3 (untouched c.touches.result c.touches.ensures c.if-not-touches.true))
+
+pub compose_touching-requires : goal.compose_touching-requires
+compose_touching-requires c = rw (c.read_zone-z-in-Compose.ensures, c.read_zone-w-in-Compose.ensures) (c.requires.2, c.requires.3, touched c.touches.result c.touches.ensures c.if-not-touches.false)
