@@ -11,7 +11,7 @@ use Rattle.recording.specs.Reading.{tick, ticks, time, changes, IsRecording}
 use Rattle.recording.specs.Changes.{begins}
 use Rattle.recording.specs.declared.Dimensions.{Dimensions}
 use Rattle.recording.proofs.Rounding.{tick_mono}
-use Rattle.recording.proofs.Refusals.{read_changed}
+use Rattle.recording.proofs.Refusals.{read_changed, read_room, read_time}
 
 module _ (bytes : List ℕ) where
   pub begins_change : (j : ℕ) → 0 < j → j ≤ changes bytes → begins bytes j ≡ tick (time bytes j)
@@ -21,6 +21,9 @@ module _ (bytes : List ℕ) where
   pub begins_end : (j : ℕ) → changes bytes < j → begins bytes j ≡ ticks bytes
   unfolding begins
   begins_end j h = rw (ne_eqb j 0 (omega arith), lt-leb j (changes bytes) h)
+
+-- where a change of a recording begins, and that its time can be looked up
+pub ruleset where_begins = (begins_change, begins_end, read_room, read_time)
 
 -- of bytes that were read as a recording
 module _ {bytes : List ℕ} {size : Dimensions} (read : IsRecording bytes size) where

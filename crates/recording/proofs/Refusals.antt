@@ -181,6 +181,9 @@ one_further bytes j h a e =
 pub last_in_time : (bytes : List ℕ) (n : ℕ) → 0 < n → all_changed bytes n ≡ in_time bytes n → time bytes n < duration bytes → all_changed bytes n ≡ true
 last_in_time bytes n some a h = a ∙ rw (lt-leb n 0 some, lt-ltb (time bytes n) (duration bytes) h)
 
+-- what the last time says of all changes
+pub ruleset times_rise = (late, one_further, last_in_time)
+
 -- THE ANSWER
 
 -- what reading answers, computed: each cause over the whole input before the next
@@ -258,6 +261,9 @@ module _ (largest : ℕ) (bytes : List ℕ) where
 
   pub reading_unique : (a b : Result Dimensions Fault) → ReadingAs largest bytes a → ReadingAs largest bytes b → a ≡ b
   reading_unique a b p q = sym (answer a p) ∙ answer b q
+
+-- what the first tests say while reading goes on
+pub ruleset told_by_tests = (sized_room, headed_small, one_bit_each, wrong_sized)
 
 -- what is known of bytes that were read as a recording
 module _ {bytes : List ℕ} {size : Dimensions} (read : IsRecording bytes size) where

@@ -122,7 +122,7 @@ fn changed(bytes: &[u8], j: usize, bits: u32) -> bool
 }
 
 // Nothing is wrong with the changes 1 to `changes`.
-#[tactic(auto, using(crate::proofs::Refusals::late, crate::proofs::Refusals::one_further, crate::proofs::Refusals::last_in_time), unfolding(crate::specs::Tests::all_changed))]
+#[tactic(auto, using(crate::proofs::Refusals::times_rise), unfolding(crate::specs::Tests::all_changed))]
 fn all_changed(bytes: &[u8], changes: usize, duration: u32, bits: u32) -> bool
     requires { (8 * changes + 7 < length bytes.now) × (duration ≡ durationOf bytes.now) × (bits ≡ 2 ^ channelsOf bytes.now) }
     ensures { result ≡ all_changed bytes.now changes }
@@ -143,7 +143,7 @@ fn all_changed(bytes: &[u8], changes: usize, duration: u32, bits: u32) -> bool
 }
 
 // Reads a recording of at most `largest` bytes. The length is judged first, then the head, then the changes.
-#[tactic(auto, using(crate::proofs::Refusals::sized_room, crate::proofs::Refusals::headed_small, crate::proofs::Refusals::one_bit_each, crate::proofs::Refusals::wrong_sized))]
+#[tactic(auto, using(crate::proofs::Refusals::told_by_tests))]
 pub fn read(bytes: &[u8], largest: usize) -> Result<Recording<'_>, Fault>
     ensures { MatchResult result (λ r. (r.bytes.now ≡ bytes.now) × ReadingAs largest bytes.now (Ok r.size)) (λ e. ReadingAs largest bytes.now (Err e)) }
 {
@@ -167,9 +167,17 @@ pub fn read(bytes: &[u8], largest: usize) -> Result<Recording<'_>, Fault>
     Ok(Recording { bytes, size })
 }
 
+// The levels that change j sets, a bit for each channel.
+pub fn levels_of(bytes: &[u8], j: usize) -> u32
+    requires { 8 * j + 7 < length bytes.now }
+    ensures { (result ≡ levelsOf bytes.now j) × (result < 65536) }
+{
+    le16(bytes, 8 * j + 6)
+}
+
 impl<'a> Recording<'a> {
     // The tick from which change j holds: 0 for j = 0, and the end of the recording after the last change.
-    #[tactic(auto, using(crate::proofs::Refusals::read_room, crate::proofs::Refusals::read_time, crate::proofs::Changes::begins_change, crate::proofs::Changes::begins_end), unfolding(crate::specs::Changes::begins))]
+    #[tactic(auto, using(crate::proofs::Changes::where_begins), unfolding(crate::specs::Changes::begins))]
     pub fn begins(&self, j: usize) -> u32
         ensures { result ≡ beginsAt self.now.bytes.now j }
     {
@@ -182,11 +190,11 @@ impl<'a> Recording<'a> {
         tick(le32(self.bytes, 8 * j + 2))
     }
 
-    // The levels that change j sets, a bit for each channel.
+    // The levels that change j sets.
     pub fn levels(&self, j: usize) -> u32
         requires { j ≤ self.now.size.changes }
         ensures { (result ≡ levelsOf self.now.bytes.now j) × (result < 65536) }
     {
-        le16(self.bytes, 8 * j + 6)
+        levels_of(self.bytes, j)
     }
 }
