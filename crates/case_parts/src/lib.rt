@@ -18,31 +18,24 @@ pub struct Case {
     pub told: usize,
 }
 
-fn wide(x: u8) -> usize
-    ensures { (result ≡ x) × (result < 256) }
-{
-    x as usize
-}
-
+#[tactic(auto, unfolding(crate::specs::Cases::four_bytes))]
 fn four_bytes(head: &[u8; 20], at: usize) -> usize
     requires { at ≤ 16 }
     ensures { result ≡ four_bytes head.now at }
 {
-    let a = wide(head[at]);
-    let b = wide(head[at + 1]);
-    let c = wide(head[at + 2]);
-    let d = wide(head[at + 3]);
-    a + 256 * b + 65_536 * c + 16_777_216 * d
+    u32::from_le_bytes([head[at], head[at + 1], head[at + 2], head[at + 3]]) as usize
 }
 
 // The largest number of four bytes stands for the largest `usize`.
+#[tactic(auto, unfolding(crate::specs::Cases::told_zones))]
 fn told_zones(n: usize) -> usize
     ensures { result ≡ told_zones n }
 {
-    if n == 4_294_967_295 {
-        return 18_446_744_073_709_551_615;
+    if n == u32::MAX as usize {
+        usize::MAX
+    } else {
+        n
     }
-    n
 }
 
 pub fn numbers(head: &[u8; 20]) -> Case
@@ -70,10 +63,8 @@ fn word_before(i: usize) -> i32
 pub fn fill(words: &mut [i32])
     ensures { AsBefore words.new 0 }
 {
-    let mut i = 0;
-    while i < words.len() {
-        words[i] = word_before(i);
-        i += 1;
+    for (i, word) in words.iter_mut().enumerate() {
+        *word = word_before(i);
     }
 }
 
@@ -81,31 +72,18 @@ pub fn fill(words: &mut [i32])
 fn is_kept(words: &[i32], start: usize) -> bool
     ensures { (result ≡ true) ↔ AsBefore words.now start }
 {
-    let mut i = start;
-    while i < words.len() {
-        if words[i] != word_before(i) {
-            return false;
-        }
-        i += 1;
-    }
-    true
+    words
+        .iter()
+        .enumerate()
+        .skip(start)
+        .all(|(i, &word)| word == word_before(i))
 }
 
 // Whether there are n words and the first n are zero.
 fn is_zero(words: &[i32], n: usize) -> bool
     ensures { (result ≡ true) ↔ Zero words.now n }
 {
-    if words.len() < n {
-        return false;
-    }
-    let mut i = 0;
-    while i < n {
-        if words[i] != 0 {
-            return false;
-        }
-        i += 1;
-    }
-    true
+    n <= words.len() && words[..n].iter().all(|&word| word == 0)
 }
 
 fn print(rt: &impl Print, text: &[u8]) -> io::Result<()> {
@@ -134,7 +112,7 @@ pub fn print_part(rt: &impl Print, text: &[u8], n: usize) -> io::Result<()> {
 
 // What a call returned.
 pub fn print_returned(rt: &impl Print, number: u32, zones: usize, rounds: u64) -> io::Result<()> {
-    print_number(rt, b"returned ", number as u64)?;
+    print_number(rt, b"returned ", u64::from(number))?;
     print_number(rt, b" ", zones as u64)?;
     print_line(rt, b" ", rounds)
 }

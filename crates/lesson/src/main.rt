@@ -6,6 +6,7 @@ ghost use Rattle.io.specs.Counts.{IsPrefixLen};
 ghost use Rattle.lines.specs.Taken.{store_bytes, Sums};
 ghost use Rattle.lesson.specs.Lesson.{Prints};
 
+use files::Loaded;
 use finder::WORK_WORDS;
 use lines::Taken;
 use list::SLOT_WORDS;
@@ -21,24 +22,22 @@ const CHUNK_BYTES: usize = 4_096;
 // More chunks than any file has: a proved loop ends.
 const MOST_CHUNKS: u64 = u64::MAX;
 
-// Writes what is printed for a recording, of which the buffer holds the first n bytes, and for the text that the state sums up, to the front of
-// `out`, and answers its length.
+// Writes what is printed for a recording, of which the buffer holds the first bytes, and for the text that the state sums up, to the front of `out`,
+// and answers its length.
 fn hold(
-    recording: &[u8; RECORDING_BYTES],
-    n: usize,
+    recording: &Loaded<RECORDING_BYTES>,
     sheet: Taken,
     store: &[u8; lines::STORE_BYTES],
     out: &mut [u8; lessons::LONGEST],
 ) -> usize
-    requires { IsPrefixLen n recording.now × ((text : List ℕ) × Sums text store.now sheet) }
-    ensures lesson { Prints recording.now n sheet store.now (take result out.new) }
+    requires { (text : List ℕ) × Sums text store.now sheet }
+    ensures lesson { Prints recording.now.buffer recording.now.filled sheet store.now (take result out.new) }
     ensures count { IsPrefixLen result out.new }
 {
-    let drive: &[u8] = recording;
     let mut answer = [0i32; SLOT_WORDS];
     let mut work = [0i32; WORK_WORDS];
     let held = lessons::hold(
-        &drive[..n],
+        recording.bytes(),
         lines::count(sheet),
         store,
         &mut answer,
@@ -46,16 +45,6 @@ fn hold(
         out,
     );
     held.size
-}
-
-// As much of a file as the buffer has room for; answers how many bytes that is. A file that can't be opened counts as empty.
-fn read_file(rt: &impl Files, path: &str, buffer: &mut [u8]) -> usize
-    ensures { IsPrefixLen result buffer.new }
-{
-    let Ok(mut file) = fs::open(rt, path) else {
-        return 0;
-    };
-    files::read_full(&mut file, buffer)
 }
 
 // The text of a file, of any length, taken in chunk by chunk. A file that can't be opened counts as empty.
@@ -79,11 +68,10 @@ fn read_sheet(rt: &impl Files, path: &str, store: &mut [u8]) -> Taken
 }
 
 fn main(rt: HostRuntime) -> io::Result<()> {
-    let mut recording = [0u8; RECORDING_BYTES];
+    let recording = Loaded::from_path(&rt, "drive.rec");
     let mut store = [0u8; lines::STORE_BYTES];
     let mut out = [0u8; lessons::LONGEST];
-    let n = read_file(&rt, "drive.rec", &mut recording);
     let sheet = read_sheet(&rt, "lesson.txt", &mut store);
-    let size = hold(&recording, n, sheet, &store, &mut out);
+    let size = hold(&recording, sheet, &store, &mut out);
     rt.write_all(&out[..size])
 }

@@ -6,11 +6,11 @@ use Rattle.lesson.proofs.hold.Goals as goal
 
 pub hold-held-requires : goal.hold-held-requires
 hold-held-requires c =
-    let some = c.requires.1 in
+    let some = c.requires in
     ((some.0, c.count.ensures some.0 _ some.1), omega arith, omega arith)
 
 pub returns : goal.returns
 returns c = record {
-  lesson = λ drive text h s. record { number = _; answer = _; work = _; lesson = longer_lesson (held (omega arith) h) (c.hold-held.ensures.lesson text (c.count.ensures text _ s)).defined };
+  lesson = λ drive text h s. record { number = _; answer = _; work = _; lesson = longer_lesson (held (omega arith) h) (rw c.bytes.ensures at (c.hold-held.ensures.lesson text (c.count.ensures text _ s))).defined };
   count = c.hold-held.ensures.count;
 }

@@ -1,2 +1,0 @@
--- `Words` has what the loops over words use.
-pub mod Words
