@@ -40,7 +40,7 @@ use Rattle.expression.specs.Grammar.{
   brackets,
 }
 use Rattle.tokens.specs.Tokens.{yes, bind, starts, rest, ranged, postfix, signed, lettered, Got, no}
-use Rattle.tokens.proofs.Text.{no_yes, yes_text, yes_value, bind_yes, branch_split, starts_is}
+use Rattle.tokens.proofs.Text.{yes_text, yes_value, bind_yes, branch_split, starts_is}
 use Rattle.tokens.proofs.Grammar.{expect_sound, ranged_sound, limits_sound}
 use Rattle.descent.specs.Descent.{postfixes, symbol, Rank, joining, factoring, repeating, single, below, read, joins, perhaps}
 
@@ -121,13 +121,13 @@ postfix_sound s u r h =
       omega arith,
       λ w e f. subst (λ (x : Unary). Form repeat (w ++ (123 ∷ (l.0 ++ (125 ∷ [])))) (unary x e)) (yes_value b.3) (braces f l.2),
     ))
-    (λ q. absurd (no_yes q.1))
+    (λ q. cc)
     (branch_split _ _ _ p.1))
     (branch_split _ _ _ h)
 
 postfixes_sound : (n : ℕ) (w : List ℕ) (t : Expression) (s : List ℕ) (u : Expression) (r : List ℕ) → postfixes n t s ≡ yes u r → Form repeat w t → More repeat w s u r
 unfolding postfixes
-postfixes_sound zero w t s u r e f = absurd (no_yes e)
+postfixes_sound zero w t s u r e f = cc
 postfixes_sound (suc n) w t s u r e f =
     ⊎_elim
     (λ p.
@@ -180,7 +180,7 @@ mutual
   unfolding read
 
   pub sound : (n : ℕ) (k : Rank) (s : List ℕ) (t : Expression) (r : List ℕ) → read n k s ≡ yes t r → Before (level k) s t r
-  sound zero k s t r e = absurd (no_yes e)
+  sound zero k s t r e = cc
   sound (suc n) (joining j) s t r e =
       let b = bind_yes _ _ e in
       let h = sound n (below j) s b.0 b.1 b.2 in
@@ -224,7 +224,7 @@ mutual
 
   joins_sound : (n : ℕ) (j : Join) (w : List ℕ) (t : Expression) (s : List ℕ) (u : Expression) (r : List ℕ)
       → joins n j t s ≡ yes u r → Form (level (joining j)) w t → More (level (joining j)) w s u r
-  joins_sound zero j w t s u r e f = absurd (no_yes e)
+  joins_sound zero j w t s u r e f = cc
   joins_sound (suc n) j w t s u r e f =
       ⊎_elim
       (λ p.

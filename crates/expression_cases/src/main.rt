@@ -91,7 +91,7 @@ fn print_answer(rt: &impl Print, text: &[u8], channels: usize) -> io::Result<()>
 
 // The number of channels up to a letter.
 fn channels_to(letter: u8) -> usize {
-    (letter % 32) as usize
+    usize::from(letter % 32)
 }
 
 fn print_line(rt: &impl Print, line: &[u8]) -> io::Result<()> {

@@ -21,7 +21,7 @@ use Rattle.tokens.specs.Tokens.{Got, no, yes}
 use Rattle.descent.specs.Descent.{joining, descent}
 use Rattle.leaves.specs.Reading.{width, wrong, Reached}
 use Rattle.parser.specs.Readers.{verdict}
-use Rattle.tokens.proofs.Text.{no_yes, yes_text}
+use Rattle.tokens.proofs.Text.{yes_text}
 use Rattle.descent.proofs.Complete.{whole_sound, whole_complete, unique}
 use Rattle.parser.proofs.Checks.{letter_below, letter_beyond, range_wrong, range_right, capped_same}
 
@@ -56,7 +56,7 @@ module _ {text : List ℕ} {channels : ℕ} (right : Long text → ⊥) where
 
   -- descent comes to nothing
   pub refused_stop : descent (joining Union) text ≡ no → DrillRefused text channels 5
-  refused_stop h = refused_form (λ e f. no_yes (sym h ∙ whole_complete f))
+  refused_stop h = refused_form (λ e f. cc (h, whole_complete f))
 
   -- or to a part of the text
   pub refused_part : {e : Expression} {r : List ℕ} → descent (joining Union) text ≡ yes e r → 0 < length r → DrillRefused text channels 5

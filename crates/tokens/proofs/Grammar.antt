@@ -13,19 +13,19 @@ use Rattle.expression.specs.declared.End.{End}
 use Rattle.expression.specs.declared.End.TheVariants.{Closed, Open}
 use Rattle.expression.specs.Grammar.{Number, digit, digit_after, Bound, reached, not_reached, Limits, from, between}
 use Rattle.tokens.specs.Tokens.{yes, bind, rest, expect, ranged, digits, numeral, numbered, bound, upper_end, limits, no, branch, starts}
-use Rattle.tokens.proofs.Text.{no_yes, yes_text, yes_value, bind_yes, branch_split, starts_is}
+use Rattle.tokens.proofs.Text.{yes_text, yes_value, bind_yes, branch_split, starts_is}
 
 pub expect_sound : {A : Type 0} (c : ℕ) (x : A) (s : List ℕ) (y : A) (r : List ℕ) → expect c x s ≡ yes y r → (x ≡ y) × (s ≡ c ∷ r)
 unfolding expect
 expect_sound c x s y r e =
-    ⊎_elim (λ w. (yes_value w.1, starts_is c s w.0 ∙ ap (λ (t : List ℕ). c ∷ t) (yes_text w.1))) (λ w. absurd (no_yes w.1))
+    ⊎_elim (λ w. (yes_value w.1, starts_is c s w.0 ∙ ap (λ (t : List ℕ). c ∷ t) (yes_text w.1))) (λ w. cc)
     (branch_split _ _ _ e)
 
 pub ranged_sound : (first count : ℕ) (s : List ℕ) (k : ℕ) (r : List ℕ) → ranged first count s ≡ yes k r → (k < count) × (s ≡ (first + k) ∷ r)
 unfolding ranged
-ranged_sound first count [] k r e = absurd (no_yes e)
+ranged_sound first count [] k r e = cc
 ranged_sound first count (c ∷ s) k r e =
-    ⊎_elim (λ w. absurd (no_yes w.1))
+    ⊎_elim (λ w. cc)
     (λ w. ⊎_elim
     (λ v.
     let lo = ltb-false c first w.0 in
@@ -33,7 +33,7 @@ ranged_sound first count (c ∷ s) k r e =
     let is = yes_value v.1 in
     let same : c ≡ first + k = omega arith in
     (omega arith, cc (yes_text v.1)))
-    (λ v. absurd (no_yes v.1))
+    (λ v. cc)
     (branch_split _ _ _ w.1))
     (branch_split _ _ _ e)
 

@@ -17,9 +17,6 @@ use borrow.Author.Tests.{eqb-true, lt-ltb, le-ltb}
 use Rattle.tokens.specs.Tokens.{Got, no, yes, branch, bind, starts, rest, ranged, Seen}
 use Rattle.tokens.specs.Readers.{Past, Offset-at}
 
-pub no_yes : {A : Type 0} {x : A} {r : List ℕ} → no ≡ yes x r → ⊥
-no_yes e = let z : ◌≡◌ {A = ℕ} 0 1 = cc in omega arith
-
 pub yes_text : {A : Type 0} {x y : A} {r s : List ℕ} → yes x r ≡ yes y s → r ≡ s
 yes_text e = cc
 
@@ -30,7 +27,7 @@ yes_value e = cc
 pub bind_yes : {A B : Type 0} (g : Got A) (k : A → List ℕ → Got B) {y : B} {r : List ℕ}
     → bind g k ≡ yes y r → (x : A) × (s : List ℕ) × (g ≡ yes x s) × (k x s ≡ yes y r)
 unfolding bind
-bind_yes no k e = absurd (no_yes e)
+bind_yes no k e = cc
 bind_yes (yes x s) k e = (x, s, refl, e)
 
 pub branch_split : {A : Type 0} (b : Bool) (a c : Unit {0} → Got A) {g : Got A} → branch b a c ≡ g → ((b ≡ true) × (a tt ≡ g)) ⊎ ((b ≡ false) × (c tt ≡ g))
