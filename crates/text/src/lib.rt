@@ -50,15 +50,16 @@ impl<'a> Text<'a> {
         }
     }
 
-    // A number in decimal. Calls itself on the digits before the last.
+    // A number in decimal. Calls itself on the digits before the last: the digits are put here, and not by the library's
+    // `Display`, since the must-fail edit `digit_dropped` is of these steps.
     pub fn decimal(&mut self, n: u64)
         ensures { Puts (decimal n) self.old self.new }
     {
         if n < 10 {
-            self.put(48 + n as u8);
+            self.put(b'0' + n as u8);
         } else {
             self.decimal(n / 10);
-            self.put(48 + (n % 10) as u8);
+            self.put(b'0' + (n % 10) as u8);
         }
     }
 
