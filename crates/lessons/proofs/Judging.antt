@@ -3,8 +3,10 @@ use mathlib.Core.Path.{refl}
 use mathlib.Core.List.{List, [], ◌∷◌}
 use Prim.Native.Nat.{ℕ, ◌<◌}
 use native.Mathlib.Omega.{arith}
+use Rattle.recording.specs.declared.Fault.{Fault}
 use Rattle.recording.specs.declared.Fault.TheVariants.{Length, Head, Change}
-use Rattle.std.specs.Prelude.{Ok, Err}
+use Rattle.std.specs.Prelude.{Ok, Option, Some, None}
+use Rattle.std.specs.Option.{ok_or}
 use Rattle.recording.specs.declared.Dimensions.{Dimensions}
 use Rattle.recording.specs.Reading.{RecordingCause, ReadingAs}
 use Rattle.outcome.specs.Outcome.{Err, Outcome}
@@ -12,8 +14,11 @@ use Rattle.outcome.specs.declared.Refusal.TheVariants.{RecordingLength, Recordin
 use Rattle.outcome.specs.Outcome.{returned}
 use Rattle.calls.specs.Causes.{First, NoCause}
 use Rattle.calls.specs.Outcome.{largest}
+use Rattle.calls.specs.Refusals.{recording_refusal}
 use Rattle.calls.proofs.Causes.{NoneOf, none, ◌also◌, none_of}
 use Rattle.lines.specs.Lines.{Unlined}
+use Rattle.lines.specs.Taken.{CountedAs}
+use Rattle.lessons.specs.Steps.{JudgedAs}
 use Rattle.lessons.specs.Lessons.{LessonCause, recording_length, recording_head, recording_change, sheet_form, lesson_causes}
 
 module _ (bytes text : List ℕ) where
@@ -30,11 +35,9 @@ module _ (bytes text : List ℕ) where
   not_sheet n (sheet_form c) = n c
 
   -- a recording that is refused
-  pub wrong_length : ReadingAs largest bytes (Err Length) → First lesson_causes (LessonCause bytes text) (Err RecordingLength)
-  wrong_length r = record { earlier = []; later = _; place = refl; holds = recording_length r.holds; none = none_of none }
-
-  pub wrong_head : ReadingAs largest bytes (Err Head) → First lesson_causes (LessonCause bytes text) (Err RecordingHead)
-  wrong_head r =
+  pub wrong_recording : (e : Fault) → ReadingAs largest bytes (Err e) → First lesson_causes (LessonCause bytes text) (Err (recording_refusal e))
+  wrong_recording Length r = record { earlier = []; later = _; place = refl; holds = recording_length r.holds; none = none_of none }
+  wrong_recording Head r =
       record {
         earlier = Err RecordingLength ∷ [];
         later = _;
@@ -42,9 +45,7 @@ module _ (bytes text : List ℕ) where
         holds = recording_head r.holds;
         none = none_of (not_length (r.first 1 (omega arith)) also none);
       }
-
-  pub wrong_change : ReadingAs largest bytes (Err Change) → First lesson_causes (LessonCause bytes text) (Err RecordingChange)
-  wrong_change r =
+  wrong_recording Change r =
       record {
         earlier = Err RecordingLength ∷ Err RecordingHead ∷ [];
         later = _;
@@ -63,6 +64,12 @@ module _ (bytes text : List ℕ) where
 
     pub none_wrong : ¬ Unlined text → NoCause lesson_causes (LessonCause bytes text)
     none_wrong n = none_of (not_length (r.0 1) also not_head (r.0 2) also not_change (r.0 3) also not_sheet n also none)
+
+-- where the recording is read the lines decide
+pub judged : {bytes : List ℕ} (text store : List ℕ) {size : Dimensions} → ReadingAs largest bytes (Ok size) → (sheet : Option ℕ) → CountedAs text store sheet
+    → JudgedAs bytes text store (ok_or sheet SheetForm)
+judged {bytes} text store r None h = wrong_sheet bytes text r h
+judged {bytes} text store r (Some n) h = (none_wrong bytes text r (λ u. u h.drills h.lined), h)
 
 -- ---- what is printed alone
 

@@ -12,7 +12,7 @@ use Rattle.outcome.proofs.Numbers.{same_number}
 use Rattle.calls.specs.Causes.{First}
 use Rattle.recording.specs.declared.Dimensions.{Dimensions}
 use Rattle.recording.specs.declared.Fault.{Fault}
-use Rattle.recording.specs.declared.Fault.TheVariants.{Length, Head, Change}
+use Rattle.recording.specs.declared.Fault.TheVariants.{Length}
 use Rattle.std.specs.Prelude.{Result, Ok, Err}
 use Rattle.recording.specs.Reading.{ReadingAs}
 use Rattle.recording.proofs.Refusals.{reading_exists, refused_length}
@@ -24,7 +24,7 @@ use Rattle.finder.proofs.Longer.{Alike}
 use Rattle.sheet.specs.Sheet.{refused}
 use Rattle.lines.proofs.Lined.{lined_unique, lined_or_not}
 use Rattle.lessons.specs.Lessons.{LessonCause, lesson_causes, Demand1Lesson, LessonAs, LessonAs.turned_back, LessonAs.held}
-use Rattle.lessons.proofs.Judging.{wrong_length, wrong_head, wrong_change, wrong_sheet, none_wrong, lesson_refusal}
+use Rattle.lessons.proofs.Judging.{wrong_recording, wrong_sheet, none_wrong, lesson_refusal}
 
 -- Theorem: of a recording, a text and both buffers a lesson is one thing only.
 pub one_lesson : {bytes text p q : List ℕ} {m n : ℕ} {answer work a w b v : List ℤ} → LessonAs bytes text answer work m p a w → LessonAs bytes text answer work n q b v
@@ -43,9 +43,7 @@ some_lesson bytes text answer work = let a = reading_exists largest bytes in rea
   where
     read : (a : Result Dimensions Fault) → ReadingAs largest bytes a
         → (number : ℕ) × (printed : List ℕ) × (answer' : List ℤ) × (work' : List ℤ) × LessonAs bytes text answer work number printed answer' work'
-    read (Err Length) r = (1, _, _, _, turned_back (wrong_length bytes text r))
-    read (Err Head) r = (2, _, _, _, turned_back (wrong_head bytes text r))
-    read (Err Change) r = (3, _, _, _, turned_back (wrong_change bytes text r))
+    read (Err e) r = (_, _, _, _, turned_back (wrong_recording bytes text e r))
     read (Ok size) r =
         ⊎_elim (λ l. let s = results_exist bytes answer work l.0 in (0, _, s.1, s.2, held (none_wrong bytes text r (λ u. u l.0 l.1)) l.1 s.3))
         (λ u. (12, _, _, _, turned_back (wrong_sheet bytes text r u))) (lined_or_not text)
@@ -63,7 +61,7 @@ promised_lesson (held n l r) = record { defined = held n l r; refuses = λ p h. 
 
 -- A lesson cannot tell two recordings that are both too long.
 too_long : (bytes text : List ℕ) {answer work : List ℤ} → largest < length bytes → LessonAs bytes text answer work 1 (refused 1) answer work
-too_long bytes text long = turned_back (wrong_length bytes text (refused_length (λ s. omega (arith, s.within))))
+too_long bytes text long = turned_back (wrong_recording bytes text Length (refused_length (λ s. omega (arith, s.within))))
 
 pub longer_lesson : {bytes bytes' text printed : List ℕ} {number : ℕ} {answer work answer' work' : List ℤ} → Alike largest bytes bytes'
     → LessonAs bytes text answer work number printed answer' work' → LessonAs bytes' text answer work number printed answer' work'

@@ -12,7 +12,6 @@ ghost use Rattle.lessons.specs.Steps.{JudgedAs};
 
 use finder::LARGEST;
 use outcome::Refusal;
-use recording::Reading;
 use text::Text;
 
 // Room for all that a lesson prints: eight results, each behind a line with its number.
@@ -29,12 +28,8 @@ pub struct Lesson {
 fn judge(recording: &[u8], sheet: Option<usize>) -> Result<usize, Refusal>
     ensures { (text store : List ℕ) → CountedAs text store sheet → JudgedAs recording.now text store result }
 {
-    match recording::read(recording, LARGEST) {
-        Reading::WrongLength => Err(Refusal::RecordingLength),
-        Reading::WrongHead => Err(Refusal::RecordingHead),
-        Reading::WrongChange => Err(Refusal::RecordingChange),
-        Reading::Recorded(_) => sheet.ok_or(Refusal::SheetForm),
-    }
+    recording::read(recording, LARGEST).map_err(calls::recording_refusal)?;
+    sheet.ok_or(Refusal::SheetForm)
 }
 
 // Holds the lesson of a sheet whose drills stand in the store, and writes what is printed to the front of `out`; the bytes behind it stay as

@@ -1,21 +1,18 @@
 -- `judge` meets its contract: what reading the recording answers decides, and then the lines.
-use Rattle.lessons.proofs.Judging.{wrong_length, wrong_head, wrong_change, wrong_sheet, none_wrong}
+use Rattle.std.proofs.lemmas.Result.{err_from_is_err_and}
+use Rattle.std.proofs.Common.{◌≡◌}
+use Rattle.calls.specs.Refusals.{recording_refusal}
+use Rattle.calls.proofs.Exchanged.{error_before, value_before}
+use Rattle.lessons.proofs.Judging.{wrong_recording, judged}
 use Rattle.lessons.proofs.judge.Goals as goal
 
-pub returns-in-WrongLength : goal.returns-in-WrongLength
-returns-in-WrongLength c text store h = wrong_length _ text (rw c.in-WrongLength.is at c.read.ensures)
+pub returns-in_err-map_err : goal.returns-in_err-map_err
+returns-in_err-map_err c text store h =
+    let f = error_before (λ e d. d ≡ recording_refusal e) c.read.result c.in_err-map_err.ensures.cases in
+    let r = err_from_is_err_and c.from_residual.result c.from_residual.ensures.1 in
+    rw (r.1, r.2, f.2) (wrong_recording _ text f.0 (rw f.1 at c.read.ensures))
 
-pub returns-in-WrongHead : goal.returns-in-WrongHead
-returns-in-WrongHead c text store h = wrong_head _ text (rw c.in-WrongHead.is at c.read.ensures)
-
-pub returns-in-WrongChange : goal.returns-in-WrongChange
-returns-in-WrongChange c text store h = wrong_change _ text (rw c.in-WrongChange.is at c.read.ensures)
-
-pub returns-in-None : goal.returns-in-None
-returns-in-None c text store h =
-    wrong_sheet _ text (rw c.in-Recorded.is at c.read.ensures) (rw c.in-None.is at h)
-
-pub returns-in-Some : goal.returns-in-Some
-returns-in-Some c text store h =
-    let l = rw c.in-Some.is at h in
-    (none_wrong _ text (rw c.in-Recorded.is at c.read.ensures) (λ u. u l.drills l.lined), l)
+pub returns : goal.returns
+returns c text store h =
+    let r = rw (value_before (λ e d. d ≡ recording_refusal e) c.read.result c.in_ok-map_err.ensures.cases) at c.read.ensures in
+    rw c.ok_or.ensures.value (judged text store r.1 c.args.sheet h)
