@@ -1,5 +1,5 @@
 -- The list of a letter with its sign, put together run by run.
-use Rattle.std.specs.Prelude.{Option, Some, None}
+use Rattle.std.specs.Prelude.{Option, Some, None, Result}
 use mathlib.Core.Path.{◌≡◌, refl, sym, ap, subst, ◌∙◌}
 use mathlib.Core.Bool.{Bool, true, false, cond}
 use mathlib.Core.List.{List, [], ◌∷◌, ◌++◌, map, map-append}
@@ -24,7 +24,6 @@ use Rattle.recording.specs.Reading.{ticks}
 use Rattle.runs.specs.declared.Level.{Level}
 use Rattle.runs.specs.declared.Run.{Run}
 use Rattle.runs.specs.declared.Cursor.{Cursor}
-use Rattle.std.specs.Prelude.{Some, None}
 use Rattle.runs.specs.Levels.{Shows}
 use Rattle.runs.specs.Search.{other}
 use Rattle.runs.specs.Runs.{Runs, FirstRun}
@@ -34,7 +33,8 @@ use Rattle.runs.proofs.Handed.{Taken, taken_none, taken_more, taken_all, shows_r
 use Rattle.runs.proofs.Events.{ends_before, shows_events}
 use Rattle.meaning.specs.Lists.{Value, overflow, ended, Letter, moment_zones, Moments}
 use Rattle.purse.specs.Purse.{Standing, Overflowed, EvaluatedAs}
-use Rattle.purse.specs.declared.Evaluated.{Evaluated}
+use Rattle.purse.specs.declared.Listed.{Listed}
+use Rattle.purse.specs.declared.Stopped.{Stopped}
 use Rattle.values.proofs.Standings.{evaluated_map}
 use Rattle.primaries.specs.declared.Mark.{Mark}
 use Rattle.primaries.specs.declared.Mark.TheVariants.{Inside, End}
@@ -172,7 +172,7 @@ spelling_moments bytes channel level from to s =
       built = s.built ∙ ap ended (ends_built (min (to + 1) (ticks bytes)) s.runs []);
     }
 
-module _ (bytes : List ℕ) (channel : ℕ) (level : Level) (from to told : ℕ) (ws : List ℤ) (base : ℕ) (r : Evaluated) where
+module _ (bytes : List ℕ) (channel : ℕ) (level : Level) (from to told : ℕ) (ws : List ℤ) (base : ℕ) (r : Result Listed Stopped) where
   -- a letter
   pub spells_letter : EvaluatedAs (Spelling Inside (Shows bytes channel level) from to) told ws base r
       → EvaluatedAs (Letter (Shows bytes channel level) from to) told ws base r

@@ -14,14 +14,13 @@ ghost use Rattle.runs.specs.Search.{other};
 ghost use Rattle.expression.specs.Expression.{literal};
 ghost use Rattle.meaning.specs.Lists.{ended, Letter, Moments, Evaluates};
 ghost use Rattle.purse.specs.Purse.{EvaluatedAs};
-ghost use Rattle.values.specs.Values.{Ticks};
 ghost use Rattle.primaries.specs.Spelling.{mark_of, Spelling};
 
 use expression::Sign;
-use growing::Grown;
-use purse::Evaluated;
+use purse::{Listed, Stopped};
 use recording::Recording;
 use runs::{Cursor, Level, Run};
+use values::Ticks;
 use words::ZONE_WORDS;
 use zone::Zone;
 
@@ -51,6 +50,18 @@ impl<'a> Window<'a> {
         }
     }
 
+    // Its ticks.
+    #[tactic(auto, using(recording::proofs::Refusals::read_ticks, recording::proofs::Refusals::read_end))]
+    pub fn ticks(&self) -> Ticks
+        ensures from { result.from ≡ self.now.from }
+        ensures to { result.to ≡ self.now.to }
+    {
+        Ticks {
+            from: self.from,
+            to: self.to,
+        }
+    }
+
     // The window with the ticks beside it, where the recording has them: an event at its edge sees both.
     #[tactic(auto, using(recording::proofs::Refusals::read_ticks, recording::proofs::Refusals::read_end))]
     fn around(&self) -> Window<'a>
@@ -66,20 +77,20 @@ impl<'a> Window<'a> {
     }
 }
 
-// `_`: the diagonal of ticks from..to, in the slot at `base`.
-pub fn point(work: &mut [i32], base: usize, from: u32, to: u32, told: u64) -> Evaluated
-    requires { (Ticks from to) × (base + slot_words ≤ length work.old) }
-    ensures value { EvaluatedAs (λ v. v ≡ ended (insert_each (Some (diagonal from to) ∷ []) [])) told work.new base result }
+// `_`: the diagonal of the ticks, in the slot at `base`.
+pub fn point(work: &mut [i32], base: usize, ticks: Ticks, told: u64) -> Result<Listed, Stopped>
+    requires { base + slot_words ≤ length work.old }
+    ensures value { EvaluatedAs (λ v. v ≡ ended (insert_each (Some (diagonal ticks.from ticks.to) ∷ []) [])) told work.new base result }
     ensures kept { Kept base slot_words work.old work.new }
 {
-    let Grown::Grew(g) = growing::grow(work, base, growing::nothing(), Zone::diagonal(from, to))
-    else {
-        return Evaluated::Overflow { left: told }; // never: an empty list has room
+    let diagonal = Zone::diagonal(ticks.from, ticks.to);
+    let Ok(g) = growing::grow(work, base, growing::nothing(), diagonal) else {
+        return Err(Stopped::Overflow { left: told }); // never: an empty list has room
     };
-    Evaluated::Listed {
+    Ok(Listed {
         count: g.count,
         left: told,
-    }
+    })
 }
 
 // What is put for each run of ticks.
@@ -117,7 +128,7 @@ fn spell(
     work: &mut [i32],
     base: usize,
     told: u64,
-) -> Evaluated
+) -> Result<Listed, Stopped>
     requires { base + slot_words ≤ length work.old }
     ensures value { EvaluatedAs (Spelling mark (Shows window.now.recording.bytes.now channel level) window.now.from window.now.to) told work.new base result }
     ensures kept { Kept base slot_words work.old work.new }
@@ -138,15 +149,15 @@ fn spell(
         };
         let mut out = [0i32; ZONE_WORDS];
         words::write_zone(&mut out, 0, z);
-        let Grown::Grew(next) = growing::grow_words(work, base, grown, &out) else {
-            return Evaluated::Overflow { left: told };
+        let Ok(next) = growing::grow_words(work, base, grown, &out) else {
+            return Err(Stopped::Overflow { left: told });
         };
         grown = next;
     }
-    Evaluated::Listed {
+    Ok(Listed {
         count: grown.count,
         left: told,
-    }
+    })
 }
 
 // A letter or `!`: the maximal runs of its channel at the level that it asks for, in the slot at `base`.
@@ -157,7 +168,7 @@ fn letter(
     work: &mut [i32],
     base: usize,
     told: u64,
-) -> Evaluated
+) -> Result<Listed, Stopped>
     requires { base + slot_words ≤ length work.old }
     ensures value { EvaluatedAs (Letter (Shows window.now.recording.bytes.now channel level) window.now.from window.now.to) told work.new base result }
     ensures kept { Kept base slot_words work.old work.new }
@@ -173,7 +184,7 @@ fn moments(
     work: &mut [i32],
     base: usize,
     told: u64,
-) -> Evaluated
+) -> Result<Listed, Stopped>
     requires { base + slot_words ≤ length work.old }
     ensures value { EvaluatedAs (Moments (Shows window.now.recording.bytes.now channel was) (Shows window.now.recording.bytes.now channel (other was)) window.now.from window.now.to) told work.new base result }
     ensures kept { Kept base slot_words work.old work.new }
@@ -189,7 +200,7 @@ pub fn literal(
     work: &mut [i32],
     base: usize,
     told: u64,
-) -> Evaluated
+) -> Result<Listed, Stopped>
     requires { base + slot_words ≤ length work.old }
     ensures value { EvaluatedAs (Evaluates (Shows window.now.recording.bytes.now) window.now.from window.now.to (literal sign channel)) told work.new base result }
     ensures kept { Kept base slot_words work.old work.new }

@@ -1,5 +1,5 @@
 -- What was built in a slot, as the value of an operator.
-use Rattle.std.specs.Prelude.{Option, Some, None}
+use Rattle.std.specs.Prelude.{Option, Some, None, Result, Ok, Err}
 use mathlib.Core.Path.{◌≡◌, refl, sym, ap}
 use mathlib.Core.List.{List}
 use Prim.Native.Nat.{ℕ, ◌+◌, ◌≤◌}
@@ -13,7 +13,7 @@ use Rattle.limit.proofs.Means.{small_most, small_least}
 use Rattle.list.specs.Insert as puts
 use Rattle.list.specs.Insert.{Built}
 use Rattle.list.specs.Slots.{slot_words, list_at, Kept, KeptBoth}
-use Rattle.operators.specs.Listing.{SoundBand, Listing}
+use Rattle.operators.specs.Listing.{SoundBand, Listing, BuiltAs}
 use Rattle.list.proofs.Copies.{brought}
 use Rattle.expression.specs.declared.Range.{Range}
 use Rattle.expression.specs.declared.End.{End}
@@ -22,33 +22,20 @@ use Rattle.expression.specs.Refusal.{figure, Wrong}
 use Rattle.expression.proofs.Laws.{right_range}
 use Rattle.meaning.specs.Satisfies.{upper_limit, lower_limit}
 use Rattle.meaning.specs.Lists.{Value, ended, longest, range_band}
-use Rattle.purse.specs.declared.Evaluated.{Evaluated}
-use Rattle.purse.specs.declared.Evaluated.TheVariants.{Listed, Overflow, Spent}
+use Rattle.list.specs.declared.Overflow as list_error
+use Rattle.purse.specs.declared.Listed.{Listed}
+use Rattle.purse.specs.declared.Stopped.{Stopped}
+use Rattle.purse.specs.declared.Stopped.TheVariants.{Overflow, Spent}
+use Rattle.values.specs.Steps.{unspent, Bringable, BroughtAs}
 use Rattle.purse.specs.Purse.{Standing, Overflowed, EvaluatedAs}
 
 -- ---- a value that is said in another way
 
-pub evaluated_map : (P Q : Value → Type 0) (told : ℕ) (ws : List ℤ) (base : ℕ) → ((v : Value) → P v → Q v) → (r : Evaluated) → EvaluatedAs P told ws base r → EvaluatedAs Q told ws base r
-evaluated_map P Q told ws base f (Listed n left) s = record { list = s.list; rounds = s.rounds; means = f _ s.means; spends = s.spends; holds = s.holds }
-evaluated_map P Q told ws base f (Overflow left) s =
+pub evaluated_map : (P Q : Value → Type 0) (told : ℕ) (ws : List ℤ) (base : ℕ) → ((v : Value) → P v → Q v) → (r : Result Listed Stopped) → EvaluatedAs P told ws base r → EvaluatedAs Q told ws base r
+evaluated_map P Q told ws base f (Ok l) s = record { list = s.list; rounds = s.rounds; means = f _ s.means; spends = s.spends; holds = s.holds }
+evaluated_map P Q told ws base f (Err (Overflow left)) s =
     let o = s.overflowing in record { overflowing = record { opened = o.opened; done = o.done; means = f _ o.means; within = o.within }; spends = s.spends }
-evaluated_map P Q told ws base f Spent x = record { whole = x.whole; means = f _ x.means; beyond = x.beyond }
-
--- ---- no list
-
--- an answer that is no list, as the code that returns it knows it
-abbrev pub NoList : Evaluated → Type 0
-NoList r = (n left : ℕ) → ¬ (r ≡ Listed n left)
-
--- what is answered where there is no list is that it overflows or that rounds are spent: the code returns such an answer as it came
-pub unlisted : (P Q : Evaluated → Type 0) (r : Evaluated) → NoList r → ((left : ℕ) → P (Overflow left) → Q (Overflow left)) → (P Spent → Q Spent) → P r → Q r
-unlisted P Q (Listed n left) k f g p = absurd (k n left refl)
-unlisted P Q (Overflow left) k f g p = f left p
-unlisted P Q Spent k f g p = g p
-
--- so it is the same wherever the words stand
-pub unlisted_elsewhere : (comes : Value → Type 0) (told : ℕ) (ws vs : List ℤ) (at base : ℕ) (r : Evaluated) → NoList r → EvaluatedAs comes told ws at r → EvaluatedAs comes told vs base r
-unlisted_elsewhere comes told ws vs at base r k = unlisted (EvaluatedAs comes told ws at) (EvaluatedAs comes told vs base) r k (λ left o. o) (λ x. x)
+evaluated_map P Q told ws base f (Err Spent) x = record { whole = x.whole; means = f _ x.means; beyond = x.beyond }
 
 -- ---- a list that was built without rounds
 
@@ -60,11 +47,28 @@ over left e = record { overflowing = record { opened = 0; done = 0; means = ap e
 pub stands : {b : Built} {ws : List ℤ} {base n : ℕ} (left : ℕ) → Listing b ws base n → Standing (λ v. v ≡ ended b) left ws base n left
 stands left l = record { list = l.list; rounds = 0; means = ap ended (sym l.value); spends = omega arith; holds = l.holds }
 
+-- either
+pub built_value : (b : Built) (ws : List ℤ) (base left : ℕ) (r : Result ℕ list_error.Overflow) → BuiltAs b ws base r → EvaluatedAs (λ v. v ≡ ended b) left ws base (unspent r left)
+built_value b ws base left (Ok n) l = stands left l
+built_value b ws base left (Err e) o = over left o.0
+
 -- ---- a list brought to another slot
 
-pub stands_brought : {comes : Value → Type 0} {told : ℕ} {ws vs : List ℤ} {at base n left : ℕ} → Standing comes told ws at n left → list_at vs base n ≡ list_at ws at n
+stands_brought : {comes : Value → Type 0} {told : ℕ} {ws vs : List ℤ} {at base n left : ℕ} → Standing comes told ws at n left → list_at vs base n ≡ list_at ws at n
     → Standing comes told vs base n left
 stands_brought s e = record { list = s.list; rounds = s.rounds; means = s.means; spends = s.spends; holds = brought s.holds e }
+
+module _ (comes : Value → Type 0) (told : ℕ) (ws : List ℤ) (at : ℕ) where
+  pub value_few : (r : Result Listed Stopped) → EvaluatedAs comes told ws at r → Bringable r
+  value_few (Ok l) s = s.holds.few
+  value_few (Err (Overflow left)) o = tt
+  value_few (Err Spent) x = tt
+
+  -- where there is none, the words say nothing
+  pub value_brought : (vs : List ℤ) (base : ℕ) (r q : Result Listed Stopped) → EvaluatedAs comes told ws at r → BroughtAs ws at r vs base q → EvaluatedAs comes told vs base q
+  value_brought vs base (Ok l) q s b = rw b.0 (stands_brought s b.1)
+  value_brought vs base (Err (Overflow left)) q o b = rw b o
+  value_brought vs base (Err Spent) q x b = rw b x
 
 -- ---- words written in two slots of a region
 

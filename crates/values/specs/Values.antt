@@ -1,12 +1,7 @@
--- What an operator asks of ticks and of its operand.
+-- What an operator asks of its operand.
 use Rattle.std.specs.Prelude.{List, ℕ, ◌+◌, ◌*◌, ◌≤◌, ℤ, length}
 use Rattle.list.specs.Insert.{capacity}
 use Rattle.list.specs.Slots.{slot_words, list_at, Sound}
-
--- ticks that the machine's numbers have room for, as those of every recording
-pub record Ticks (from to : ℕ) : Type 0 where
-  pub forward : from ≤ to
-  pub small : to ≤ 1_000_000
 
 -- the finished list of an operand, n zones in the slot at `base`; the two slots behind it are free
 pub record OperandAt (ws : List ℤ) (base n : ℕ) : Type 0 where

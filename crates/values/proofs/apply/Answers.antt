@@ -2,7 +2,7 @@
 use Rattle.values.proofs.apply.Goals as goal
 
 pub banded-requires : goal.banded-requires
-banded-requires c = (c.requires.0, c.requires.1, rw c.in-Band.is at c.requires.2)
+banded-requires c = (c.requires.0, rw c.in-Band.is at c.requires.1)
 
 pub returns-in-Star : goal.returns-in-Star
 returns-in-Star c = record {

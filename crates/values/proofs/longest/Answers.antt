@@ -4,10 +4,10 @@ use Rattle.values.proofs.Standings.{upper_small}
 use Rattle.values.proofs.longest.Goals as goal
 
 pub most-requires : goal.most-requires
-most-requires c = omega (arith, c.requires.0.small)
+most-requires c = omega (arith, c.args.ticks.small)
 
 pub upper_limit-requires : goal.upper_limit-requires
-upper_limit-requires c = upper_small c.args.range _ c.in-Some.is c.requires.1
+upper_limit-requires c = upper_small c.args.range _ c.in-Some.is c.requires
 
 pub returns-in-None : goal.returns-in-None
 returns-in-None c = rw c.in-None.is c.most.ensures.value

@@ -5,17 +5,17 @@ use Rattle.zone.specs.Zone.{band}
 use Rattle.values.proofs.range_band.Goals as goal
 
 pub lower_limit-requires : goal.lower_limit-requires
-lower_limit-requires c = lower_small c.args.range c.requires.1
+lower_limit-requires c = lower_small c.args.range c.requires
 
 pub band-requires : goal.band-requires
 band-requires c = (
-  omega (arith, c.requires.0.forward, c.requires.0.small),
-  c.requires.0.small,
-  rw c.longest.ensures (small_longest c.args.from c.args.to c.args.range c.requires.0.small c.requires.1),
-  rw c.lower_limit.ensures (small_lower c.args.range.lo (lower_small c.args.range c.requires.1)),
+  omega (arith, c.args.ticks.forward, c.args.ticks.small),
+  c.args.ticks.small,
+  rw c.longest-hi.ensures (small_longest c.args.ticks.from c.args.ticks.to c.args.range c.args.ticks.small c.requires),
+  rw c.lower_limit.ensures (small_lower c.args.range.lo (lower_small c.args.range c.requires)),
 )
 
 pub returns : goal.returns
 returns c =
     let args = c.args in
-    c.band.ensures.value ∙ (λ i. band args.from args.to (c.longest.ensures i) (c.lower_limit.ensures i))
+    c.band.ensures.value ∙ (λ i. band args.ticks.from args.ticks.to (c.longest-hi.ensures i) (c.lower_limit.ensures i))
