@@ -2,7 +2,7 @@
 // of them.
 #![tactic(auto)]
 
-ghost use Rattle.std.specs.Prelude.{◌≡◌, ◌≤◌, ◌<◌, length};
+ghost use Rattle.std.specs.Prelude.{◌≡◌, ◌∷◌, ◌≤◌, ◌<◌, length, drop};
 ghost use Rattle.outcome.specs.Outcome.{front_of};
 ghost use Rattle.lessons.specs.Lessons.{longest_lesson};
 ghost use Rattle.exports.specs.Exports.{Called, Uncalled, CalledWithin, UncalledWithin, CalledLesson, UncalledLesson};
@@ -11,6 +11,17 @@ use outcome::Returned;
 
 // What no refusal has for its number: no call was made.
 const NO_CALL: u32 = 4_294_967_295;
+
+// Puts the zones and the rounds that are returned into the first two counts, and answers the number.
+fn report(returned: Returned, counts: &mut [u64]) -> u32
+    requires { 2 ≤ length counts.old }
+    ensures number { result ≡ returned.number }
+    ensures counts { counts.new ≡ returned.zones ∷ returned.rounds ∷ drop 2 counts.old }
+{
+    counts[0] = returned.zones as u64;
+    counts[1] = returned.rounds;
+    returned.number
+}
 
 // `finder::find`, with its number as the answer and its zones and rounds in the first two counts. Where there is no room
 // for two counts no call is made, and the answer says so.
@@ -28,11 +39,8 @@ pub extern "C" fn zikpasho_find(
     if counts.len() < 2 {
         return NO_CALL;
     }
-    let outcome = finder::find(recording, drill, answer, work);
-    let told = Returned::from(outcome);
-    counts[0] = told.zones as u64;
-    counts[1] = told.rounds;
-    told.number
+    let told = Returned::from(finder::find(recording, drill, answer, work));
+    report(told, counts)
 }
 
 // `finder::find_within`, which is told the rounds left and gives back those left after it in one place; its number is the answer, its zones and
@@ -52,11 +60,8 @@ pub extern "C" fn zikpasho_within(
     if counts.len() < 2 {
         return NO_CALL;
     }
-    let outcome = finder::find_within(recording, drill, left, answer, work);
-    let got = Returned::from(outcome);
-    counts[0] = got.zones as u64;
-    counts[1] = got.rounds;
-    got.number
+    let got = Returned::from(finder::find_within(recording, drill, left, answer, work));
+    report(got, counts)
 }
 
 // A whole lesson: `lessons::hold` on the lines of a text. What the program `lesson` prints stands in front of `out`, with its length in `size`;

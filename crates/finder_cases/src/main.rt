@@ -5,8 +5,6 @@
 // The recording and the drill follow. Word i of either buffer is i before the call.
 #![tactic(auto)]
 
-ghost use Rattle.std.specs.Prelude.{◌≡◌, true, ◌≤◌, length};
-
 use std::io;
 use std::io::Read;
 
@@ -41,10 +39,7 @@ fn run(
     w: usize,
     told: usize,
 ) -> io::Result<()> {
-    if ANSWER_MOST < a {
-        return Ok(());
-    }
-    if WORK_MOST < w {
+    if ANSWER_MOST < a || WORK_MOST < w {
         return Ok(());
     }
     let mut answer = [0i32; ANSWER_MOST];
@@ -54,51 +49,40 @@ fn run(
     call(rt, recording, drill, &mut answer[..a], &mut work[..w], told)
 }
 
-// Reads n bytes of the input into the buffer, and answers whether all of them came.
-fn is_read(input: &mut impl Read, buffer: &mut [u8], n: usize) -> bool
-    ensures { result ≡ true → n ≤ length buffer.old }
-{
-    if buffer.len() < n {
-        return false;
+// The next n bytes of the input, put at the front of the buffer: none where it has no room for them, or not all of them come.
+fn next_bytes<'a>(input: &mut impl Read, buffer: &'a mut [u8], n: usize) -> Option<&'a [u8]> {
+    if buffer.len() < n || files::read_full(input, &mut buffer[..n]) < n {
+        return None;
     }
-    let got = files::read_full(input, &mut buffer[..n]);
-    got == n
+    Some(&buffer[..n])
 }
 
 // Reads case k and runs it; answers whether it was all there.
 fn next_case(rt: &impl Print, input: &mut impl Read, k: u64) -> io::Result<bool> {
     let mut head = [0u8; 20];
-    if !is_read(input, &mut head, 20) {
+    if next_bytes(input, &mut head, 20).is_none() {
         return Ok(false);
     }
     let case = case_parts::numbers(&head);
-    let n = case.recording;
-    let mut recording = [0u8; RECORDING_BYTES];
-    if !is_read(input, &mut recording, n) {
+    let mut bytes = [0u8; RECORDING_BYTES];
+    let Some(recording) = next_bytes(input, &mut bytes, case.recording) else {
         return Ok(false);
-    }
-    let m = case.drill;
-    let mut drill = [0u8; DRILL_BYTES];
-    if !is_read(input, &mut drill, m) {
+    };
+    let mut text = [0u8; DRILL_BYTES];
+    let Some(drill) = next_bytes(input, &mut text, case.drill) else {
         return Ok(false);
-    }
+    };
     case_parts::print_line(rt, b"case ", k)?;
-    run(
-        rt,
-        &recording[..n],
-        &drill[..m],
-        case.answer,
-        case.work,
-        case.told,
-    )?;
+    run(rt, recording, drill, case.answer, case.work, case.told)?;
     Ok(true)
 }
 
 fn main(rt: HostRuntime) -> io::Result<()> {
     let mut input = rt.stdin();
-    let mut k = 1;
-    while k < 1_000_000 && next_case(&rt, &mut input, k)? {
-        k += 1;
+    for k in 1..1_000_000 {
+        if !next_case(&rt, &mut input, k)? {
+            break;
+        }
     }
     Ok(())
 }

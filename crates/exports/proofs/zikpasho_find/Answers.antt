@@ -1,6 +1,5 @@
 -- The promises of `finder::find`, in a number and two counts; or no call.
 use Rattle.std.proofs.Common.{refl, ap, ◌∙◌, ◌∷◌, arith, drop}
-use Rattle.exports.proofs.Counts.{two}
 use Rattle.outcome.specs.declared.Returned.{Returned}
 use Rattle.exports.proofs.zikpasho_find.Goals as goal
 
@@ -12,6 +11,6 @@ returns-then-counts-lt2 c = record {
 
 pub returns : goal.returns
 returns c = record {
-  call = λ h. record { outcome = c.find-outcome.result; number_is = ap (λ (r : Returned). r.number) c.from-told.ensures; counts_are = two c.args.counts.now _ _ h ∙ ap (λ (r : Returned). r.zones ∷ r.rounds ∷ drop 2 c.args.counts.now) c.from-told.ensures; demand1 = c.find-outcome.ensures.demand1; demand2 = c.find-outcome.ensures.demand2; demand3 = c.find-outcome.ensures.demand3 };
+  call = λ h. record { outcome = c.find.result; number_is = c.report.ensures.number ∙ ap (λ (r : Returned). r.number) c.from-told.ensures; counts_are = c.report.ensures.counts ∙ ap (λ (r : Returned). r.zones ∷ r.rounds ∷ drop 2 c.args.counts.now) c.from-told.ensures; demand1 = c.find.ensures.demand1; demand2 = c.find.ensures.demand2; demand3 = c.find.ensures.demand3 };
   none = λ h. absurd (omega (arith, c.if-counts-lt2.false));
 }

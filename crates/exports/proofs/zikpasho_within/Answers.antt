@@ -1,6 +1,5 @@
 -- The promises of `finder::find_within`, in a number, a place for the rounds left and two counts; or no call.
 use Rattle.std.proofs.Common.{refl, ap, ◌∙◌, ◌∷◌, arith, drop}
-use Rattle.exports.proofs.Counts.{two}
 use Rattle.outcome.specs.declared.Returned.{Returned}
 use Rattle.exports.proofs.zikpasho_within.Goals as goal
 
@@ -12,6 +11,6 @@ returns-then-counts-lt2 c = record {
 
 pub returns : goal.returns
 returns c = record {
-  call = λ h. record { outcome = c.find_within-outcome.result; number_is = ap (λ (r : Returned). r.number) c.from-got.ensures; counts_are = two c.args.counts.now _ _ h ∙ ap (λ (r : Returned). r.zones ∷ r.rounds ∷ drop 2 c.args.counts.now) c.from-got.ensures; demand1 = c.find_within-outcome.ensures.demand1; demand2 = c.find_within-outcome.ensures.demand2; demand3 = c.find_within-outcome.ensures.demand3 };
+  call = λ h. record { outcome = c.find_within.result; number_is = c.report.ensures.number ∙ ap (λ (r : Returned). r.number) c.from-got.ensures; counts_are = c.report.ensures.counts ∙ ap (λ (r : Returned). r.zones ∷ r.rounds ∷ drop 2 c.args.counts.now) c.from-got.ensures; demand1 = c.find_within.ensures.demand1; demand2 = c.find_within.ensures.demand2; demand3 = c.find_within.ensures.demand3 };
   none = λ h. absurd (omega (arith, c.if-counts-lt2.false));
 }
