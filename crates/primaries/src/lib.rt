@@ -93,7 +93,7 @@ pub fn point(work: &mut [i32], base: usize, ticks: Ticks, told: u64) -> Result<L
     })
 }
 
-// What is put for each run of ticks.
+// What is put for each run of ticks. An enum, no closure: the contracts say by its name what is put for a run.
 #[derive(Clone, Copy)]
 enum Mark {
     // The stretches in it.
