@@ -1,4 +1,5 @@
 -- One step of the evaluator: what a node says of its expression, and how the values of its operands make its own.
+use Rattle.std.specs.Prelude.{Result, Err}
 use mathlib.Core.Path.{◌≡◌, refl, sym, subst, ◌∙◌}
 use mathlib.Core.List.{List}
 use mathlib.Core.Logic.{inl}
@@ -21,13 +22,13 @@ use Rattle.expression.proofs.Laws.{Operands, operands}
 use Rattle.meaning.specs.Lists.{Value, ended, Then, join_list, applied, Evaluates}
 use Rattle.primaries.specs.declared.Window.{Window}
 use Rattle.values.specs.Values.{OperandAt}
-use Rattle.purse.specs.declared.Evaluated.{Evaluated}
-use Rattle.values.proofs.Standings.{NoList}
+use Rattle.purse.specs.declared.Listed.{Listed}
+use Rattle.purse.specs.declared.Stopped.{Stopped}
 use Rattle.purse.specs.Purse.{Standing, EvaluatedAs}
 use Rattle.meaning.proofs.Evaluation.{One, HasValue, then_some, evaluates_well, evaluates_unique, evaluates_exists}
 use Rattle.evaluation.proofs.Operands.{then_goes, then_stops}
 use Rattle.meaning.proofs.Finite.{recording_finite}
-use Rattle.primaries.proofs.Windows.{window_ticks}
+use Rattle.primaries.proofs.Windows.{window_forward, window_small}
 
 -- what node i says of its expression, as the code finds the node
 pub node_is : {ns : List ℕ} {channels i d : ℕ} {e : Expression} {n : Node} (t : Node) → n ≡ node_at ns i → n ≡ t → Planted ns channels i d e → Operands ns channels (d - 1) e t
@@ -91,7 +92,7 @@ module _ (window : Window) where
     operand_sound : Sound (list_at ws base n)
     operand_sound =
         subst Sound (sym s.holds.zones)
-        (λ z m. proper_within (omega arith) (window_ticks window).small ((evaluates_well (Shows window.recording.bytes.now) (window_ticks window).forward f s.rounds s.means).proper z m))
+        (λ z m. proper_within (omega arith) (window_small window) ((evaluates_well (Shows window.recording.bytes.now) (window_forward window) f s.rounds s.means).proper z m))
 
     -- .. as the operators with one operand ask for it, and those with two for the right one ..
     pub only_operand : base + 3 * slot_words ≤ length ws → OperandAt ws base n
@@ -110,49 +111,49 @@ module _ (window : Window) where
 
   -- ---- no operand
 
-  pub leaf_done : {e f : Expression} → e ≡ f → (told : ℕ) (ws : List ℤ) (base : ℕ) (r : Evaluated) → EvaluatedAs (Comes f) told ws base r → EvaluatedAs (Comes e) told ws base r
+  pub leaf_done : {e f : Expression} → e ≡ f → (told : ℕ) (ws : List ℤ) (base : ℕ) (r : Result Listed Stopped) → EvaluatedAs (Comes f) told ws base r → EvaluatedAs (Comes e) told ws base r
   leaf_done is told ws base r a = subst (λ (x : Expression). EvaluatedAs (Comes x) told ws base r) (sym is) a
 
   -- ---- an operator with one operand
 
-  module _ {e : Expression} (f : Expression) (op : Unary) (is : e ≡ unary op f) (told : ℕ) (ws : List ℤ) (base : ℕ) (r : Evaluated) where
-    whole_one : EvaluatedAs (Comes (unary op f)) told ws base r → EvaluatedAs (Comes e) told ws base r
-    whole_one = subst (λ (x : Expression). EvaluatedAs (Comes x) told ws base r) (sym is)
+  module _ {e : Expression} (f : Expression) (op : Unary) (is : e ≡ unary op f) (told : ℕ) (ws : List ℤ) (base : ℕ) where
+    whole_one : (r : Result Listed Stopped) → EvaluatedAs (Comes (unary op f)) told ws base r → EvaluatedAs (Comes e) told ws base r
+    whole_one r = subst (λ (x : Expression). EvaluatedAs (Comes x) told ws base r) (sym is)
 
     -- without a list
-    pub one_stops : (us : List ℤ) (at : ℕ) → NoList r → EvaluatedAs (Comes f) told us at r → EvaluatedAs (Comes e) told ws base r
-    one_stops us at k a = whole_one (then_stops (Comes f) (applied window.from window.to op) told (one f) (some (unary op f)) us ws at base r k a)
+    pub one_stops : (us : List ℤ) (at : ℕ) (s : Stopped) → EvaluatedAs (Comes f) told us at (Err s) → EvaluatedAs (Comes e) told ws base (Err s)
+    one_stops us at s a = whole_one (Err s) (then_stops (Comes f) (applied window.from window.to op) told (one f) (some (unary op f)) us ws at base s a)
 
     -- with one
-    pub one_done : {us : List ℤ} {at n left : ℕ} → Standing (Comes f) told us at n left → EvaluatedAs (applied window.from window.to op (list_at us at n)) left ws base r → EvaluatedAs (Comes e) told ws base r
-    one_done {left = left} s a = whole_one (then_goes (Comes f) (applied window.from window.to op) told s.list s.rounds left s.means s.spends ws base r (subst (λ (A : List Zone). EvaluatedAs (applied window.from window.to op A) left ws base r) s.holds.zones a))
+    pub one_done : (r : Result Listed Stopped) {us : List ℤ} {at n left : ℕ} → Standing (Comes f) told us at n left → EvaluatedAs (applied window.from window.to op (list_at us at n)) left ws base r → EvaluatedAs (Comes e) told ws base r
+    one_done r {left = left} s a = whole_one r (then_goes (Comes f) (applied window.from window.to op) told s.list s.rounds left s.means s.spends ws base r (subst (λ (A : List Zone). EvaluatedAs (applied window.from window.to op A) left ws base r) s.holds.zones a))
 
   -- ---- an operator with two operands
 
-  module _ {e : Expression} (f g : Expression) (op : Join) (is : e ≡ join op f g) (told : ℕ) (ws : List ℤ) (base : ℕ) (r : Evaluated) where
-    whole_two : EvaluatedAs (Comes (join op f g)) told ws base r → EvaluatedAs (Comes e) told ws base r
-    whole_two = subst (λ (x : Expression). EvaluatedAs (Comes x) told ws base r) (sym is)
+  module _ {e : Expression} (f g : Expression) (op : Join) (is : e ≡ join op f g) (told : ℕ) (ws : List ℤ) (base : ℕ) where
+    whole_two : (r : Result Listed Stopped) → EvaluatedAs (Comes (join op f g)) told ws base r → EvaluatedAs (Comes e) told ws base r
+    whole_two r = subst (λ (x : Expression). EvaluatedAs (Comes x) told ws base r) (sym is)
 
     -- the left one without a list
-    pub left_stops : (us : List ℤ) (at : ℕ) → NoList r → EvaluatedAs (Comes f) told us at r → EvaluatedAs (Comes e) told ws base r
-    left_stops us at k a = whole_two (then_stops (Comes f) (λ A. Then (Comes g) (λ B v. v ≡ ended (join_list op A B))) told (one f) (some (join op f g)) us ws at base r k a)
+    pub left_stops : (us : List ℤ) (at : ℕ) (s : Stopped) → EvaluatedAs (Comes f) told us at (Err s) → EvaluatedAs (Comes e) told ws base (Err s)
+    left_stops us at s a = whole_two (Err s) (then_stops (Comes f) (λ A. Then (Comes g) (λ B v. v ≡ ended (join_list op A B))) told (one f) (some (join op f g)) us ws at base s a)
 
     module _ {us : List ℤ} {at n left : ℕ} (s : Standing (Comes f) told us at n left) where
       -- what comes of the right one, the left list being there
       abbrev Next : List Zone → Value → Type 0
       Next B v = v ≡ ended (join_list op s.list B)
 
-      after_left : EvaluatedAs (Then (Comes g) Next) left ws base r → EvaluatedAs (Comes e) told ws base r
-      after_left a = whole_two (then_goes (Comes f) (λ A. Then (Comes g) (λ B v. v ≡ ended (join_list op A B))) told s.list s.rounds left s.means s.spends ws base r a)
+      after_left : (r : Result Listed Stopped) → EvaluatedAs (Then (Comes g) Next) left ws base r → EvaluatedAs (Comes e) told ws base r
+      after_left r a = whole_two r (then_goes (Comes f) (λ A. Then (Comes g) (λ B v. v ≡ ended (join_list op A B))) told s.list s.rounds left s.means s.spends ws base r a)
 
       -- the right one without a list
-      pub right_stops : (vs : List ℤ) (next : ℕ) → NoList r → EvaluatedAs (Comes g) left vs next r → EvaluatedAs (Comes e) told ws base r
-      right_stops vs next k a = after_left (then_stops (Comes g) Next left (one g) (then_some (some g) (λ B q _. (ended (join_list op s.list B), refl))) vs ws next base r k a)
+      pub right_stops : (vs : List ℤ) (next : ℕ) (t : Stopped) → EvaluatedAs (Comes g) left vs next (Err t) → EvaluatedAs (Comes e) told ws base (Err t)
+      right_stops vs next t a = after_left (Err t) (then_stops (Comes g) Next left (one g) (then_some (some g) (λ B q _. (ended (join_list op s.list B), refl))) vs ws next base t a)
 
       -- both with one
-      pub two_done : {vs : List ℤ} {next m end : ℕ} → Standing (Comes g) left vs next m end → {A : List Zone} → A ≡ s.list
+      pub two_done : (r : Result Listed Stopped) {vs : List ℤ} {next m end : ℕ} → Standing (Comes g) left vs next m end → {A : List Zone} → A ≡ s.list
           → EvaluatedAs (λ v. v ≡ ended (join_list op A (list_at vs next m))) end ws base r → EvaluatedAs (Comes e) told ws base r
-      two_done {vs} {next} {m} {end} t p a =
-          after_left (then_goes (Comes g) Next left t.list t.rounds end t.means t.spends ws base r
+      two_done r {vs} {next} {m} {end} t p a =
+          after_left r (then_goes (Comes g) Next left t.list t.rounds end t.means t.spends ws base r
           (subst (λ (B : List Zone). EvaluatedAs (Next B) end ws base r) t.holds.zones
           (subst (λ (A : List Zone). EvaluatedAs (λ v. v ≡ ended (join_list op A (list_at vs next m))) end ws base r) p a)))

@@ -16,7 +16,7 @@ ghost use Rattle.evaluation.specs.Evaluating.{Rooted};
 use expression::Node;
 use list::SLOT_WORDS;
 use primaries::Window;
-use purse::Evaluated;
+use purse::{Listed, Stopped};
 
 // The list of a node's expression, in the slot at `base`, within the rounds told. A left operand, or the only one, is finished in the same
 // slot, a right one in the slot after it, with the rounds that the left one leaves. Words outside the depth + 2 slots from `base` on stay as
@@ -29,43 +29,26 @@ pub fn evaluate(
     base: usize,
     depth: usize,
     told: u64,
-) -> Evaluated
+) -> Result<Listed, Stopped>
     requires { (Rooted nodes.now window.now.recording.size.channels node depth) × (depth ≤ 16) × (base + (depth + 2) * slot_words ≤ length work.old) }
     ensures value { (e : Expression) → Planted nodes.now window.now.recording.size.channels node depth e → EvaluatedAs (Evaluates (Shows window.now.recording.bytes.now) window.now.from window.now.to e) told work.new base result }
     ensures kept { Kept base ((depth + 2) * slot_words) work.old work.new }
 {
     let rest = depth - 1;
     match expression::node_at(nodes, node) {
-        Node::Epsilon => primaries::point(work, base, window.from, window.to, told),
+        Node::Epsilon => primaries::point(work, base, window.ticks(), told),
         Node::Literal(sign, channel) => {
             primaries::literal(window, channel as u8, sign, work, base, told)
         }
         Node::Applied(op, operand) => {
-            let only = evaluate(window, nodes, operand, work, base, rest, told);
-            let Evaluated::Listed { count: n, left } = only else {
-                return only;
-            };
-            values::apply(op, work, base, n, window.from, window.to, left)
+            let only = evaluate(window, nodes, operand, work, base, rest, told)?;
+            values::apply(op, work, base, only.count, window.ticks(), only.left)
         }
         Node::Infix(op, left, right) => {
-            let first = evaluate(window, nodes, left, work, base, rest, told);
-            let Evaluated::Listed {
-                count: n,
-                left: after,
-            } = first
-            else {
-                return first;
-            };
+            let first = evaluate(window, nodes, left, work, base, rest, told)?;
             let next = base + SLOT_WORDS;
-            let second = evaluate(window, nodes, right, work, next, rest, after);
-            let Evaluated::Listed {
-                count: m,
-                left: end,
-            } = second
-            else {
-                return second;
-            };
-            values::combine(op, work, base, n, m, end)
+            let second = evaluate(window, nodes, right, work, next, rest, first.left)?;
+            values::combine(op, work, base, first.count, second.count, second.left)
         }
     }
 }
