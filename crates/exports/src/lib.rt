@@ -10,7 +10,7 @@ ghost use Rattle.exports.specs.Exports.{Called, Uncalled, CalledWithin, Uncalled
 
 use outcome::Returned;
 
-// What no refusal has for its number: no call was made.
+// What no refusal has for its number: no call was made. C is given numbers alone.
 const NO_CALL: u32 = u32::MAX;
 
 // Puts the zones and the rounds that are returned into the first two counts, and answers the number.

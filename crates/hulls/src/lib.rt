@@ -31,7 +31,7 @@ struct Reach {
 pub fn block_size(left: usize) -> usize
     ensures { result ≡ min left block_zones }
 {
-    if left < BLOCK { left } else { BLOCK }
+    left.min(BLOCK)
 }
 
 // The hull of the n zones from `at` on.
@@ -41,16 +41,15 @@ fn reach_of(words: &[i32], at: usize, n: usize) -> Reach
 {
     let mut start = LEAST_WORD;
     let mut nstart = LEAST_WORD;
-    let mut j = 0;
-    while j < n {
+    for j in 0..n {
         start = limit::greater(start, words[at + j * ZONE_WORDS]);
         nstart = limit::greater(nstart, words[at + j * ZONE_WORDS + 1]);
-        j += 1;
     }
     Reach { start, nstart }
 }
 
 // Writes the hulls of the list of n zones from `base` on; of a list of one block none is written. The words that are left over may be any.
+// A hull stands as two words, and not as a `Reach`, because `touching::share` holds a zone's words against it as against another zone's.
 pub fn write_hulls(words: &[i32], base: usize, n: usize, hulls: &mut [i32])
     requires { (n ≤ capacity) × (base + n * zone_words ≤ length words.now) × (length hulls.old ≡ hull_words) }
     ensures { Hulls hulls.new words.now base n }
@@ -58,17 +57,13 @@ pub fn write_hulls(words: &[i32], base: usize, n: usize, hulls: &mut [i32])
     if n <= BLOCK {
         return;
     }
-    let mut b = 0;
-    while b * BLOCK < n {
+    for b in 0..n.div_ceil(BLOCK) {
         let h = reach_of(
             words,
             base + b * BLOCK * ZONE_WORDS,
             block_size(n - b * BLOCK),
         );
-        let start = h.start;
-        let nstart = h.nstart;
-        hulls[b * 2] = start;
-        hulls[b * 2 + 1] = nstart;
-        b += 1;
+        hulls[b * 2] = h.start;
+        hulls[b * 2 + 1] = h.nstart;
     }
 }

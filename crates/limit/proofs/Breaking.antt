@@ -58,9 +58,6 @@ module _ (w : ℤ) (f : SFits w32 w) (h : Small most_sum (decode w)) where
   word : SFits w32 (pos 1 -ℤ w)
   word = fits_by (omega (arithZ, diff (pos 1) w, size w, size (pos 1 -ℤ w), word_small w h))
 
-  pub broken_fits : SFits w32 (pos 1 -ℤ to_z w32 (of_z w32 w))
-  broken_fits = rw (back f) word
-
   pub broken_word : to_z w32 (of_z w32 (pos 1 -ℤ to_z w32 (of_z w32 w))) ≡ code (broken (decode w))
   broken_word = rw (back f) (back word ∙ ap (λ (x : ℤ). pos 1 -ℤ x) (sym (code_decode w)) ∙ sym (code_broken (decode w)))
 

@@ -99,13 +99,21 @@ pub excess_even : (a b : ℤ) → shr_z a 2 *ℤ pos 2 ≡ a → b -ℤ shr_z b 
 excess_even a b e =
     rw (← sum_even a b e) (omega (arithZ, e, times (shr_z a 2) 2, times (shr_z b 2) 2, sum a b, diff b (shr_z b 2 *ℤ pos 2), sum (shr_z a 2 *ℤ pos 2) (shr_z b 2 *ℤ pos 2), diff (a +ℤ b) (shr_z a 2 *ℤ pos 2 +ℤ shr_z b 2 *ℤ pos 2)))
 
--- the lesser limit has the lesser word
-pub lesser_word : (a b : ℤ) (t : Bool) → le_z a b ≡ t → cond t a b ≡ code (lesser (decode a) (decode b))
+-- the lesser limit has the lesser word, which is the first where no word of the two is less
+pub lesser_word : (a b : ℤ) (t : Bool) → lt_z b a ≡ t → cond t b a ≡ code (lesser (decode a) (decode b))
 unfolding lesser
-lesser_word a b true e = rw (decode_order a b, e, code_decode a)
-lesser_word a b false e = rw (decode_order a b, e, code_decode b)
+lesser_word a b true e =
+    let n : le_z a b ≡ false = omega (arithZ, e) in
+    rw (decode_order a b, n, code_decode b)
+lesser_word a b false e =
+    let n : le_z a b ≡ true = omega (arithZ, e) in
+    rw (decode_order a b, n, code_decode a)
 
-pub greater_word : (a b : ℤ) (t : Bool) → le_z a b ≡ t → cond t b a ≡ code (greater (decode a) (decode b))
+pub greater_word : (a b : ℤ) (t : Bool) → lt_z b a ≡ t → cond t a b ≡ code (greater (decode a) (decode b))
 unfolding greater
-greater_word a b true e = rw (decode_order a b, e, code_decode b)
-greater_word a b false e = rw (decode_order a b, e, code_decode a)
+greater_word a b true e =
+    let n : le_z a b ≡ false = omega (arithZ, e) in
+    rw (decode_order a b, n, code_decode a)
+greater_word a b false e =
+    let n : le_z a b ≡ true = omega (arithZ, e) in
+    rw (decode_order a b, n, code_decode b)

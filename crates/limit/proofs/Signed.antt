@@ -1,51 +1,20 @@
 -- What the machine's numbers hold in the functions on limits.
 use mathlib.Core.Path.{◌≡◌, sym, ap, subst, ◌∙◌}
-use Prim.Native.Nat.{ℕ, ◌≤◌}
+use Prim.Native.Nat.{◌≤◌}
 use native.Mathlib.Omega.{arith}
-use lib.IntN.{ℤ, pos, neg_ℤ, ◌+ℤ◌, ◌-ℤ◌, ◌*ℤ◌, +ℤ_idl}
+use lib.IntN.{ℤ, pos, ◌+ℤ◌, ◌-ℤ◌, ◌*ℤ◌}
 use lib.Signed.{mag, shr_z, mag_shr, le_z}
 use mir.Syntax.{w32}
 use mir.Val.{SFits, to_z, of_z}
 use mir.ValLaws.{sfits_le}
 use Rattle.signed.proofs.Integers.{arithZ, sum, diff, size, half, times}
 use Rattle.signed.proofs.Machine.{back, fits_by}
-use Rattle.limit.specs.Limit.{Limit, AtMost, Below, Small, most_ticks, most_sum, at_most, lesser, ◌⊕◌, nought, code, decode}
-use Rattle.limit.proofs.Coding.{decode_code, code_decode, decode_odd, decode_even, room_beside, excess_odd, excess_even}
+use Rattle.limit.specs.Limit.{Limit, AtMost, Below, Small, most_sum, at_most, lesser, ◌⊕◌, nought, code, decode}
+use Rattle.limit.proofs.Coding.{decode_code, code_decode, room_beside, excess_odd, excess_even}
 
 -- what a call gave, kept in a local
 pub read_back : {r x : ℤ} → SFits w32 r → r ≡ x → to_z w32 (of_z w32 r) ≡ x
 read_back f e = back f ∙ e
-
--- a tick negated
-module _ {n : ℕ} {r : ℤ} (h : n ≤ most_ticks) (f : SFits w32 r) (e : r ≡ pos n) where
-  negated : SFits w32 (pos 0 -ℤ pos n)
-  negated = fits_by (omega (arithZ, diff (pos 0) (pos n), size (pos 0 -ℤ pos n)))
-
-  pub negated_fits : SFits w32 (pos 0 -ℤ to_z w32 (of_z w32 r))
-  negated_fits = rw (back f, e) negated
-
-  pub negated_is : to_z w32 (of_z w32 (pos 0 -ℤ to_z w32 (of_z w32 r))) ≡ neg_ℤ (pos n)
-  negated_is = rw (back f, e) (back negated ∙ +ℤ_idl (neg_ℤ (pos n)))
-
--- the word of a number
-module _ {v : ℤ} (f : SFits w32 v) (h : mag v ≤ most_sum) where
-  twice : SFits w32 (v *ℤ pos 2)
-  twice = fits_by (omega (arithZ, times v 2, size v, size (v *ℤ pos 2)))
-
-  pub twice_fits : SFits w32 (to_z w32 (of_z w32 v) *ℤ pos 2)
-  twice_fits = rw (back f) twice
-
-  pub twice_is : to_z w32 (of_z w32 (to_z w32 (of_z w32 v) *ℤ pos 2)) ≡ v *ℤ pos 2
-  twice_is = rw (back f) (back twice)
-
-  more : SFits w32 (v *ℤ pos 2 +ℤ pos 1)
-  more = fits_by (omega (arithZ, times v 2, sum (v *ℤ pos 2) (pos 1), size v, size (v *ℤ pos 2 +ℤ pos 1)))
-
-  pub more_fits : SFits w32 (to_z w32 (of_z w32 (to_z w32 (of_z w32 v) *ℤ pos 2)) +ℤ pos 1)
-  more_fits = rw twice_is more
-
-  pub more_is : to_z w32 (of_z w32 (to_z w32 (of_z w32 (to_z w32 (of_z w32 v) *ℤ pos 2)) +ℤ pos 1)) ≡ v *ℤ pos 2 +ℤ pos 1
-  more_is = rw twice_is (back more)
 
 -- the number of a word
 module _ {w : ℤ} (f : SFits w32 w) where
@@ -55,21 +24,12 @@ module _ {w : ℤ} (f : SFits w32 w) where
   whole : SFits w32 (shr_z w 2 *ℤ pos 2)
   whole = fits_by (omega (arithZ, times (shr_z w 2) 2, half w, size w, size (shr_z w 2 *ℤ pos 2), f.sfits))
 
-  pub whole_fits : SFits w32 (to_z w32 (of_z w32 (shr_z (to_z w32 (of_z w32 w)) 2)) *ℤ pos 2)
-  whole_fits = rw half_is whole
-
   whole_is : to_z w32 (of_z w32 (to_z w32 (of_z w32 (shr_z (to_z w32 (of_z w32 w)) 2)) *ℤ pos 2)) ≡ shr_z w 2 *ℤ pos 2
   whole_is = rw half_is (back whole)
 
   -- the test is of the bits
-  pub of_odd : ¬ (of_z w32 (to_z w32 (of_z w32 (shr_z (to_z w32 (of_z w32 w)) 2)) *ℤ pos 2) ≡ of_z w32 w) → AtMost (to_z w32 (of_z w32 (shr_z (to_z w32 (of_z w32 w)) 2))) ≡ decode w
-  of_odd n = rw half_is (sym (decode_odd w (λ e. n (rw (half_is, e)))))
-
   same_whole : of_z w32 (to_z w32 (of_z w32 (shr_z (to_z w32 (of_z w32 w)) 2)) *ℤ pos 2) ≡ of_z w32 w → shr_z w 2 *ℤ pos 2 ≡ w
   same_whole t = sym whole_is ∙ ap (to_z w32) t ∙ back f
-
-  pub of_even : of_z w32 (to_z w32 (of_z w32 (shr_z (to_z w32 (of_z w32 w)) 2)) *ℤ pos 2) ≡ of_z w32 w → Below (to_z w32 (of_z w32 (shr_z (to_z w32 (of_z w32 w)) 2))) ≡ decode w
-  of_even t = rw half_is (sym (decode_even w (same_whole t)))
 
 -- two words, and room between their limits
 code_small : (l : Limit) → Small most_sum l → mag (code l) ≤ 8_000_001
@@ -79,9 +39,6 @@ code_small (Below v) h = omega (arithZ, times v 2, size v, size (v *ℤ pos 2))
 module _ (m : Limit) {y : ℤ} (f : SFits w32 y) (q : y ≡ code m) (h : Small most_sum m) where
   rest : SFits w32 (pos 2 -ℤ y)
   rest = rw q (fits_by (omega (arithZ, diff (pos 2) (code m), size (code m), size (pos 2 -ℤ code m), code_small m h)))
-
-  pub rest_fits : SFits w32 (pos 2 -ℤ to_z w32 (of_z w32 y))
-  rest_fits = rw (back f) rest
 
   pub room_is : (l : Limit) {x : ℤ} → SFits w32 x → x ≡ code l → le_z (to_z w32 (of_z w32 (pos 2 -ℤ to_z w32 (of_z w32 y)))) (to_z w32 (of_z w32 x)) ≡ at_most nought (l ⊕ m)
   room_is l g p = rw (back g, back f, back rest, p, q) (room_beside l m)
@@ -101,9 +58,6 @@ module _ {a b : ℤ} (f : SFits w32 a) (g : SFits w32 b) where
   parity : SFits w32 (b -ℤ shr_z b 2 *ℤ pos 2)
   parity = fits_by (omega (arith, parity_small))
 
-  pub parity_fits : SFits w32 (to_z w32 (of_z w32 b) -ℤ to_z w32 (of_z w32 (to_z w32 (of_z w32 (shr_z (to_z w32 (of_z w32 b)) 2)) *ℤ pos 2)))
-  parity_fits = rw (whole_is g, back g) parity
-
   parity_is : to_z w32 (of_z w32 (to_z w32 (of_z w32 b) -ℤ to_z w32 (of_z w32 (to_z w32 (of_z w32 (shr_z (to_z w32 (of_z w32 b)) 2)) *ℤ pos 2)))) ≡ b -ℤ shr_z b 2 *ℤ pos 2
   parity_is = rw (whole_is g, back g) (back parity)
 
@@ -117,9 +71,6 @@ module _ {a b : ℤ} (f : SFits w32 a) (g : SFits w32 b) (p : Small most_sum (de
 
   total : SFits w32 (a +ℤ b)
   total = fits_by (omega (arith, total_small))
-
-  pub total_fits : SFits w32 (to_z w32 (of_z w32 a) +ℤ to_z w32 (of_z w32 b))
-  total_fits = rw (back f, back g) total
 
   total_is : to_z w32 (of_z w32 (to_z w32 (of_z w32 a) +ℤ to_z w32 (of_z w32 b))) ≡ a +ℤ b
   total_is = rw (back f, back g) (back total)
@@ -142,12 +93,6 @@ or_sum_is {a} {b} {c} fa fb fc fs fr p q = back fr ∙ q ∙ rw (back fa, back f
 -- the words of limits, kept in locals, and what is computed of them
 word_kept : {x : ℤ} (l : Limit) → SFits w32 x → x ≡ code l → decode (to_z w32 (of_z w32 x)) ≡ l
 word_kept l f e = ap decode (read_back f e) ∙ decode_code l
-
-pub small_kept : {x : ℤ} (l : Limit) → SFits w32 x → x ≡ code l → Small most_sum l → Small most_sum (decode (to_z w32 (of_z w32 x)))
-small_kept l f e h = rw (word_kept l f e) h
-
-pub room_kept : (l m : Limit) {x y : ℤ} → SFits w32 x → SFits w32 y → x ≡ code l → y ≡ code m → at_most nought (decode (to_z w32 (of_z w32 x)) ⊕ decode (to_z w32 (of_z w32 y))) ≡ at_most nought (l ⊕ m)
-room_kept l m f g p q = rw (word_kept l f p, word_kept m g q)
 
 pub both_kept : (f : Limit → Limit → Limit) (l m : Limit) {x y r : ℤ} → SFits w32 x → SFits w32 y → SFits w32 r → x ≡ code l → y ≡ code m → r ≡ code (f (decode (to_z w32 (of_z w32 x))) (decode (to_z w32 (of_z w32 y)))) → decode (to_z w32 (of_z w32 r)) ≡ f l m
 both_kept f l m a b c p q e = word_kept (f l m) c (e ∙ rw (word_kept l a p, word_kept m b q))

@@ -1,7 +1,8 @@
 // Times and limits: an upper limit on a difference of two times, its sums, its order and its word.
 //
 // specs/ says what a time and a limit mean; proofs/Times.antt has the laws of times, proofs/Order.antt those of limits, proofs/Coding.antt
-// those of their words. A `requires` is only of ranges.
+// those of their words. A `requires` is only of ranges. It stands at the functions and not in the type as an invariant, because any word of
+// a lent buffer is read as a limit (`from`), and a word may be far out of range.
 #![tactic(auto)]
 
 ghost use Rattle.std.specs.Prelude.{◌≡◌, ◌≤◌, pos, neg_ℤ, ◌+ℤ◌, ◌-ℤ◌};
@@ -15,7 +16,7 @@ pub enum Limit {
     Below(i32),
 }
 
-// A tick as a limit's number, and negated.
+// A tick as a limit's number, and negated. `i32` has no `From<u32>`, and `try_from` would bring an error that the `requires` rules out.
 pub fn positive(n: u32) -> i32
     requires { n ≤ most_ticks }
     ensures { result ≡ pos n }
@@ -52,13 +53,13 @@ fn sum(a: i32, b: i32) -> i32
 pub fn lesser(a: i32, b: i32) -> i32
     ensures { result ≡ code (lesser (decode a) (decode b)) }
 {
-    if a <= b { a } else { b }
+    a.min(b)
 }
 
 pub fn greater(a: i32, b: i32) -> i32
     ensures { result ≡ code (greater (decode a) (decode b)) }
 {
-    if a <= b { b } else { a }
+    a.max(b)
 }
 
 // The lesser of a limit and the sum of two others, of their words.
@@ -128,21 +129,17 @@ impl Limit {
         requires { (Small most_sum self) × (Small most_sum other) }
         ensures { result ≡ self ⊕ other }
     {
-        Limit::of_word(sum(self.word(), other.word()))
+        Limit::from(sum(self.word(), other.word()))
     }
 
+    // Whether this limit is at most the other. A derived order would set one case before the other and not first by number, and an order
+    // written as an impl would need more code and laws to be asked for this one test.
     pub fn at_most(self, other: Limit) -> bool
         ensures { result ≡ at_most self other }
     {
-        match self {
-            Limit::AtMost(a) => match other {
-                Limit::AtMost(b) => a <= b,
-                Limit::Below(b) => a < b,
-            },
-            Limit::Below(a) => match other {
-                Limit::AtMost(b) => a <= b,
-                Limit::Below(b) => a <= b,
-            },
+        match (self, other) {
+            (Limit::AtMost(a), Limit::Below(b)) => a < b,
+            (Limit::AtMost(a) | Limit::Below(a), Limit::AtMost(b) | Limit::Below(b)) => a <= b,
         }
     }
 
@@ -150,7 +147,7 @@ impl Limit {
         requires { (Small most_sum self) × (Small most_sum other) }
         ensures { result ≡ lesser self other }
     {
-        Limit::of_word(lesser(self.word(), other.word()))
+        Limit::from(lesser(self.word(), other.word()))
     }
 
     // The lesser of this limit and the sum of two others.
@@ -158,7 +155,7 @@ impl Limit {
         requires { (Small most_sum self) × (Small most_sum a) × (Small most_sum b) }
         ensures { result ≡ lesser self (a ⊕ b) }
     {
-        Limit::of_word(or_sum(self.word(), a.word(), b.word()))
+        Limit::from(or_sum(self.word(), a.word(), b.word()))
     }
 
     // Whether this limit and the one on the negated quantity leave room between them.
@@ -169,7 +166,7 @@ impl Limit {
         room(self.word(), negated.word())
     }
 
-    // The word of a limit: twice its number, and one more where it is reached.
+    // The word of a limit: twice its number, and one more where it is reached. It has a `requires`, so it is no `From`.
     pub fn word(self) -> i32
         requires { Small most_sum self }
         ensures { result ≡ code self }
@@ -179,11 +176,13 @@ impl Limit {
             Limit::Below(v) => v * 2,
         }
     }
+}
 
-    // The limit of a word.
-    pub fn of_word(w: i32) -> Limit
-        ensures { result ≡ decode w }
-    {
+// The limit of a word.
+impl From<i32> for Limit {
+    ghost from_gives = { λ w l. l ≡ decode w };
+
+    fn from(w: i32) -> Limit {
         let h = w >> 1;
         if h * 2 != w {
             Limit::AtMost(h)

@@ -21,7 +21,8 @@ pub const PLACE: usize = 256;
 pub const STORE_BYTES: usize = MOST_LINES * PLACE;
 
 // What is known of a text beside the store: how many lines a newline ended, counted up to 9; how many bytes stand
-// behind the last newline, counted up to 256; and whether one of the lines is empty.
+// behind the last newline, counted up to 256; and whether one of the lines is empty. That is a mark and no error: a text is judged at its
+// end alone.
 #[derive(Clone, Copy)]
 pub struct Taken {
     pub lines: usize,

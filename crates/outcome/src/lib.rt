@@ -37,8 +37,8 @@ pub enum Refusal {
 // What a call comes to.
 pub type Outcome = Result<Finished, Refusal>;
 
-// What a call returns: its number (0 where it is accepted), the zones listed and the total of rounds. These are numbers, for the C interface
-// (`zikpasho_find`, `zikpasho_within`) and the sheet hand out no others.
+// What a call returns: its number (0 where it is accepted), the zones listed and the total of rounds. These are the numbers that the papers
+// name and C is given.
 #[derive(Clone, Copy)]
 pub struct Returned {
     pub number: u32,

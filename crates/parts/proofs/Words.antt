@@ -2,8 +2,9 @@
 use mathlib.Core.Path.{◌≡◌, refl, sym, ap, subst, ◌∙◌}
 use mathlib.Core.Bool.{true, cond}
 use mathlib.Core.List.{List, [], ◌∷◌}
-use Prim.Native.Nat.{ℕ, zero, suc, ◌+◌, ◌-◌, ◌%◌, ◌<◌}
+use Prim.Native.Nat.{ℕ, zero, suc, ◌+◌, ◌<◌}
 use native.Mathlib.Omega.{arith}
+use lib.Bits.{bit_xor}
 use lib.Dec.{T, T_not, eqb, eqb→eq}
 use borrow.Author.Tests.{eq-eqb}
 use lib.IntN.{ℤ, pos}
@@ -46,14 +47,8 @@ unfolding parts_on
 parts_end z w e = ap (λ (n : ℕ). parts_on (drop n sides) z w) e
 
 -- a place is beside that of the opposite side
-pub beside_even : (k : ℕ) → k < 6 → k % 2 ≡ 0 → k + 1 ≡ place (opposite (side k))
-beside_even = each_place (λ k. k % 2 ≡ 0 → k + 1 ≡ place (opposite (side k))) (λ _. refl) (λ e. absurd (one e)) (λ _. refl) (λ e. absurd (one e)) (λ _. refl) (λ e. absurd (one e))
-  where
-    one : ¬ (◌≡◌ {A = ℕ} 1 0)
-    one e = omega arith
-
-pub beside_odd : (k : ℕ) → k < 6 → ¬ (k % 2 ≡ 0) → k - 1 ≡ place (opposite (side k))
-beside_odd = each_place (λ k. ¬ (k % 2 ≡ 0) → k - 1 ≡ place (opposite (side k))) (λ n. absurd (n refl)) (λ _. refl) (λ n. absurd (n refl)) (λ _. refl) (λ n. absurd (n refl)) (λ _. refl)
+pub beside_is : (k : ℕ) → k < 6 → bit_xor k 1 ≡ place (opposite (side k))
+beside_is = each_place (λ k. bit_xor k 1 ≡ place (opposite (side k))) refl refl refl refl refl refl
 
 pub limit_word : (ws : List ℤ) (j : Side) → limit (zone_at ws 0) j ≡ decode (word ws (place j))
 unfolding zone_at

@@ -14,12 +14,12 @@ use limit::Limit;
 use words::ZONE_WORDS;
 use zone::Zone;
 
-// The place of the limit on the negated quantity.
+// The place of the limit on the negated quantity: limits stand in pairs, so the two places differ in the lowest bit.
 fn beside(k: usize) -> usize
     requires { k < 6 }
     ensures { result ≡ place (opposite (side k)) }
 {
-    if k % 2 == 0 { k + 1 } else { k - 1 }
+    k ^ 1
 }
 
 // The limit of a word in place j, lowered to that of another word if j is place k.
@@ -27,9 +27,9 @@ fn limited(word: i32, j: usize, k: usize, other: i32) -> Limit
     ensures { result ≡ cond (eqb j k) (lesser (decode word) (decode other)) (decode word) }
 {
     if j == k {
-        return Limit::of_word(limit::lesser(word, other));
+        return Limit::from(limit::lesser(word, other));
     }
-    Limit::of_word(word)
+    Limit::from(word)
 }
 
 // The zone of six words with one more limit in place k, given by its word.

@@ -20,7 +20,7 @@ pub struct Tree {
     pub depth: u32,
     // One more than the highest letter.
     pub width: u32,
-    // Check 7 refuses some range.
+    // Check 7 refuses some range. A mark and no error: check 6, on the letters of the whole text, comes before it.
     pub wrong: bool,
 }
 

@@ -1,12 +1,12 @@
 -- What a buffer holds after it was written to.
-use mathlib.Core.Path.{◌≡◌, sym, ap, ◌∙◌}
+use mathlib.Core.Path.{◌≡◌, refl, sym, ap, ◌∙◌}
 use mathlib.Core.List.{List, [], ◌∷◌, ◌++◌, append_assoc}
 use Prim.Native.Nat.{ℕ, zero, suc, ◌+◌, ◌-◌, ◌≤◌, ◌<◌}
 use native.Mathlib.Omega.{arith}
 use native.Mathlib.Nat.{add-zero}
 use lib.IntN.{ℤ, pos}
 use lib.ListN.{length, set, take, drop, length-append, length-take, length-drop, get_or-append}
-use lib.Seq.{sets-eq, length-take-le, get_or-append-add, get_or-take, get_or-drop}
+use lib.Seq.{paste, drop-cons, sets-eq, length-take-le, get_or-append-add, get_or-take, get_or-drop}
 use Rattle.limit.specs.Limit.{decode}
 use Rattle.zone.specs.declared.Zone.{Zone}
 use Rattle.words.specs.Words.{zone_words, word, codes, zone_at, overwrite}
@@ -96,3 +96,35 @@ six_stores ws at v0 v1 v2 v3 v4 v5 h =
     let e4 : at + 4 ≡ suc (suc (suc (suc at))) = omega arith in
     let e5 : at + 5 ≡ suc (suc (suc (suc (suc at)))) = omega arith in
     rw (e1, e2, e3, e4, e5) (sets-eq vs ws at h ∙ append_assoc (take at ws) vs (drop (at + zone_words) ws))
+
+-- six words of a list, cut out of it
+pub six_words : (ws : List ℤ) (at : ℕ) → at + zone_words ≤ length ws → take zone_words (drop at ws) ≡ word ws at ∷ word ws (at + 1) ∷ word ws (at + 2) ∷ word ws (at + 3) ∷ word ws (at + 4) ∷ word ws (at + 5) ∷ []
+six_words ws at h =
+    let e1 : at + 1 ≡ suc at = omega arith in
+    let e2 : at + 2 ≡ suc (suc at) = omega arith in
+    let e3 : at + 3 ≡ suc (suc (suc at)) = omega arith in
+    let e4 : at + 4 ≡ suc (suc (suc (suc at))) = omega arith in
+    let e5 : at + 5 ≡ suc (suc (suc (suc (suc at)))) = omega arith in
+    let d0 = drop-cons ws at (pos 0) (omega arith) in
+    let d1 = drop-cons ws (suc at) (pos 0) (omega arith) in
+    let d2 = drop-cons ws (suc (suc at)) (pos 0) (omega arith) in
+    let d3 = drop-cons ws (suc (suc (suc at))) (pos 0) (omega arith) in
+    let d4 = drop-cons ws (suc (suc (suc (suc at)))) (pos 0) (omega arith) in
+    let d5 = drop-cons ws (suc (suc (suc (suc (suc at))))) (pos 0) (omega arith) in
+    rw (e1, e2, e3, e4, e5, d0, d1, d2, d3, d4, d5) refl
+
+-- .. and all of a list of six
+pub six_of : (w : List ℤ) → length w ≡ 6 → word w 0 ∷ word w 1 ∷ word w 2 ∷ word w 3 ∷ word w 4 ∷ word w 5 ∷ [] ≡ w
+six_of (a ∷ b ∷ c ∷ d ∷ e ∷ f ∷ []) h = refl
+six_of [] h = absurd (omega arith)
+six_of (a ∷ []) h = absurd (omega arith)
+six_of (a ∷ b ∷ []) h = absurd (omega arith)
+six_of (a ∷ b ∷ c ∷ []) h = absurd (omega arith)
+six_of (a ∷ b ∷ c ∷ d ∷ []) h = absurd (omega arith)
+six_of (a ∷ b ∷ c ∷ d ∷ e ∷ []) h = absurd (omega arith)
+six_of (a ∷ b ∷ c ∷ d ∷ e ∷ f ∷ g ∷ w) h = absurd (omega arith)
+
+-- a zone's words pasted over others
+pub pasted_zone : (ws : List ℤ) (from to n : ℕ) → n ≡ zone_words → from + zone_words ≤ length ws → paste ws to (drop from ws) n ≡ overwrite ws to (codes (zone_at ws from))
+unfolding overwrite
+pasted_zone ws from to n e h = rw (e, six_words ws from h, ← codes_read ws from) (append_assoc (take to ws) (codes (zone_at ws from)) (drop (to + zone_words) ws))

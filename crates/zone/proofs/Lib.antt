@@ -14,5 +14,4 @@ pub mod Range
 pub mod Lengths
 pub mod Steps
 pub mod Ranges
-pub mod Signed
 pub mod Laws

@@ -1,19 +1,11 @@
 -- The steps of the functions' code: what a test that was passed or failed says of the definition.
 use Rattle.std.specs.Prelude.{Option, Some, None}
-use mathlib.Core.Path.{◌≡◌, refl, sym, ap, subst, ◌∙◌}
-use mathlib.Core.Bool.{Bool, true, false, not, cond}
+use mathlib.Core.Path.{◌≡◌, sym, ap, subst, ◌∙◌}
+use mathlib.Core.Bool.{Bool, true, false, cond}
 use lib.Dec.{T}
 use Rattle.limit.specs.declared.Limit.{Limit}
 use Rattle.limit.specs.Limit.{at_most, ◌≤ᴸ◌, ◌⊕◌, nought}
 use Rattle.zone.specs.Zone.{Zone, where_room, tighter, tighten}
-
-pub is_false : {b : Bool} → not b ≡ true → b ≡ false
-is_false {b = true} e = sym e
-is_false {b = false} e = refl
-
-pub is_true : {b : Bool} → not b ≡ false → b ≡ true
-is_true {b = true} e = refl
-is_true {b = false} e = sym e
 
 module _ (l m : Limit) (a : Option Zone) {b : Bool} (e : b ≡ at_most nought (l ⊕ m)) where
   pub no_room : b ≡ false → None ≡ where_room l m a

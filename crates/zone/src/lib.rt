@@ -3,7 +3,8 @@
 //
 // specs/ says what a zone means; proofs/Laws.antt is the page of laws that crates above cite, beside those of times in
 // `limit`. A `requires` is only of ranges, and every tight zone inside ticks 0..1,000,000 meets it (`ranged` in
-// proofs/Laws.antt).
+// proofs/Laws.antt). It stands at the functions and not in the type as an invariant, because the words of any buffer are read as a zone
+// (`words::read_zone`), and `contains` asks nothing of its zones.
 #![tactic(auto)]
 
 ghost use Rattle.std.specs.Prelude.{◌≡◌, ◌≤◌};
@@ -28,19 +29,13 @@ impl Zone {
         requires { Ranged most_ticks self }
         ensures { result ≡ tighter self }
     {
-        let s = self.start;
-        let ns = self.nstart;
-        let e = self.end;
-        let ne = self.nend;
-        let l = self.length;
-        let nl = self.nlength;
         Zone {
-            start: s.or_sum(nl, e),
-            nstart: ns.or_sum(ne, l),
-            end: e.or_sum(l, s),
-            nend: ne.or_sum(ns, nl),
-            length: l.or_sum(e, ns),
-            nlength: nl.or_sum(s, ne),
+            start: self.start.or_sum(self.nlength, self.end),
+            nstart: self.nstart.or_sum(self.nend, self.length),
+            end: self.end.or_sum(self.length, self.start),
+            nend: self.nend.or_sum(self.nstart, self.nlength),
+            length: self.length.or_sum(self.end, self.nstart),
+            nlength: self.nlength.or_sum(self.start, self.nend),
         }
     }
 
@@ -51,19 +46,13 @@ impl Zone {
         ensures meaning { Tightens self result }
     {
         let t = self.tighter();
-        let s = t.start;
-        let ns = t.nstart;
-        if !s.leaves_room(ns) {
+        if !t.start.leaves_room(t.nstart) {
             return None;
         }
-        let e = t.end;
-        let ne = t.nend;
-        if !e.leaves_room(ne) {
+        if !t.end.leaves_room(t.nend) {
             return None;
         }
-        let l = t.length;
-        let nl = t.nlength;
-        if !l.leaves_room(nl) {
+        if !t.length.leaves_room(t.nlength) {
             return None;
         }
         Some(t)
@@ -74,25 +63,13 @@ impl Zone {
         requires { (Ranged most_ticks self) × (Ranged most_ticks other) }
         ensures { result ≡ both self other }
     {
-        let s = self.start;
-        let ns = self.nstart;
-        let e = self.end;
-        let ne = self.nend;
-        let l = self.length;
-        let nl = self.nlength;
-        let os = other.start;
-        let ons = other.nstart;
-        let oe = other.end;
-        let one = other.nend;
-        let ol = other.length;
-        let onl = other.nlength;
         Zone {
-            start: s.lesser(os),
-            nstart: ns.lesser(ons),
-            end: e.lesser(oe),
-            nend: ne.lesser(one),
-            length: l.lesser(ol),
-            nlength: nl.lesser(onl),
+            start: self.start.lesser(other.start),
+            nstart: self.nstart.lesser(other.nstart),
+            end: self.end.lesser(other.end),
+            nend: self.nend.lesser(other.nend),
+            length: self.length.lesser(other.length),
+            nlength: self.nlength.lesser(other.nlength),
         }
     }
 
@@ -102,14 +79,10 @@ impl Zone {
         ensures value { result ≡ meet self other }
         ensures meaning { Meets self other result }
     {
-        let starts = self.start;
-        let other_nstarts = other.nstart;
-        if !other_nstarts.leaves_room(starts) {
+        if !other.nstart.leaves_room(self.start) {
             return None;
         }
-        let nstarts = self.nstart;
-        let other_starts = other.start;
-        if !other_starts.leaves_room(nstarts) {
+        if !other.start.leaves_room(self.nstart) {
             return None;
         }
         self.both(other).tighten()
@@ -121,25 +94,19 @@ impl Zone {
         requires { (Ranged most_ticks self) × (Ranged most_ticks other) }
         ensures { result ≡ across self other }
     {
-        let s = self.start;
-        let ns = self.nstart;
-        let e = self.end;
-        let ne = self.nend;
-        let l = self.length;
-        let nl = self.nlength;
-        let os = other.start;
-        let ons = other.nstart;
-        let oe = other.end;
-        let one = other.nend;
-        let ol = other.length;
-        let onl = other.nlength;
         Zone {
-            start: s.or_sum(os, nl),
-            nstart: ns.or_sum(ons, l),
-            end: oe.or_sum(ol, e),
-            nend: one.or_sum(onl, ne),
-            length: ol.plus(l).or_sum(oe, ns),
-            nlength: onl.plus(nl).or_sum(one, s),
+            start: self.start.or_sum(other.start, self.nlength),
+            nstart: self.nstart.or_sum(other.nstart, self.length),
+            end: other.end.or_sum(other.length, self.end),
+            nend: other.nend.or_sum(other.nlength, self.nend),
+            length: other
+                .length
+                .plus(self.length)
+                .or_sum(other.end, self.nstart),
+            nlength: other
+                .nlength
+                .plus(self.nlength)
+                .or_sum(other.nend, self.start),
         }
     }
 
@@ -149,14 +116,10 @@ impl Zone {
         ensures value { result ≡ compose self other }
         ensures meaning { Composes self other result }
     {
-        let ends = self.end;
-        let nstarts = other.nstart;
-        if !nstarts.leaves_room(ends) {
+        if !other.nstart.leaves_room(self.end) {
             return None;
         }
-        let nends = self.nend;
-        let starts = other.start;
-        if !starts.leaves_room(nends) {
+        if !other.start.leaves_room(self.nend) {
             return None;
         }
         Some(self.across(other))
@@ -167,60 +130,37 @@ impl Zone {
         ensures value { result ≡ contains self other }
         ensures meaning { Contains self other result }
     {
-        let s = self.start;
-        let ns = self.nstart;
-        let e = self.end;
-        let ne = self.nend;
-        let l = self.length;
-        let nl = self.nlength;
-        let os = other.start;
-        let ons = other.nstart;
-        let oe = other.end;
-        let one = other.nend;
-        let ol = other.length;
-        let onl = other.nlength;
-        os.at_most(s)
-            & ons.at_most(ns)
-            & oe.at_most(e)
-            & one.at_most(ne)
-            & ol.at_most(l)
-            & onl.at_most(nl)
+        other.start.at_most(self.start)
+            & other.nstart.at_most(self.nstart)
+            & other.end.at_most(self.end)
+            & other.nend.at_most(self.nend)
+            & other.length.at_most(self.length)
+            & other.nlength.at_most(self.nlength)
     }
 
-    // The stretches within ticks from..to that have a length.
+    // The stretches within ticks from..to that have a length: of all stretches those that start before the last tick and end after the first.
     pub fn run(from: u32, to: u32) -> Zone
         requires { (from ≤ most_ticks) × (to ≤ most_ticks) }
         ensures value { result ≡ run from to }
         ensures meaning { IsRun from to result }
     {
-        let last = limit::positive(to);
-        let first = limit::negative(from);
-        let whole = last + first;
         Zone {
-            start: Limit::Below(last),
-            nstart: Limit::AtMost(first),
-            end: Limit::AtMost(last),
-            nend: Limit::Below(first),
-            length: Limit::AtMost(whole),
+            start: Limit::less(to),
+            nend: Limit::more(from),
             nlength: Limit::Below(0),
+            ..Zone::everything(from, to)
         }
     }
 
-    // The stretches within ticks from..to that have none.
+    // The stretches within ticks from..to that have none: all stretches with a limit of 0 on their length.
     pub fn diagonal(from: u32, to: u32) -> Zone
         requires { (from ≤ most_ticks) × (to ≤ most_ticks) }
         ensures value { result ≡ diagonal from to }
         ensures meaning { IsDiagonal from to result }
     {
-        let last = limit::positive(to);
-        let first = limit::negative(from);
         Zone {
-            start: Limit::AtMost(last),
-            nstart: Limit::AtMost(first),
-            end: Limit::AtMost(last),
-            nend: Limit::AtMost(first),
             length: Limit::AtMost(0),
-            nlength: Limit::AtMost(0),
+            ..Zone::everything(from, to)
         }
     }
 
@@ -230,15 +170,12 @@ impl Zone {
         ensures value { result ≡ everything from to }
         ensures meaning { IsEverything from to result }
     {
-        let last = limit::positive(to);
-        let first = limit::negative(from);
-        let longest = last + first;
         Zone {
-            start: Limit::AtMost(last),
-            nstart: Limit::AtMost(first),
-            end: Limit::AtMost(last),
-            nend: Limit::AtMost(first),
-            length: Limit::AtMost(longest),
+            start: Limit::most(to),
+            nstart: Limit::least(from),
+            end: Limit::most(to),
+            nend: Limit::least(from),
+            length: Limit::most(to).plus(Limit::least(from)),
             nlength: Limit::AtMost(0),
         }
     }
@@ -248,19 +185,10 @@ impl Zone {
         requires { (Ranged most_ticks self) × (Small most_ticks longest) × (Small most_ticks shortest) }
         ensures { result ≡ limited self longest shortest }
     {
-        let s = self.start;
-        let ns = self.nstart;
-        let e = self.end;
-        let ne = self.nend;
-        let l = self.length;
-        let nl = self.nlength;
         Zone {
-            start: s,
-            nstart: ns,
-            end: e,
-            nend: ne,
-            length: l.lesser(longest),
-            nlength: nl.lesser(shortest),
+            length: self.length.lesser(longest),
+            nlength: self.nlength.lesser(shortest),
+            ..self
         }
     }
 
@@ -272,22 +200,13 @@ impl Zone {
         ensures meaning { IsBand from to longest shortest result }
     {
         let z = Zone::everything(from, to).limited(longest, shortest);
-        let s = z.start;
-        let ns = z.nstart;
-        let e = z.end;
-        let ne = z.nend;
-        let l = z.length;
-        let nl = z.nlength;
-        if !l.leaves_room(nl) {
+        if !z.length.leaves_room(z.nlength) {
             return None;
         }
         Some(Zone {
-            start: s.or_sum(nl, e),
-            nstart: ns,
-            end: e,
-            nend: ne.or_sum(ns, nl),
-            length: l,
-            nlength: nl,
+            start: z.start.or_sum(z.nlength, z.end),
+            nend: z.nend.or_sum(z.nstart, z.nlength),
+            ..z
         })
     }
 }

@@ -1,10 +1,6 @@
-use Rattle.std.proofs.Common.{◌-◌, ◌≤◌}
 use Rattle.hulls.specs.Hulls.{Covers}
 use Rattle.list.specs.Slots.{list_at}
 use Rattle.hulls.proofs.reach_of.Given as goal
 
 abbrev pub invariant-loop-j : goal.invariant-loop-j
-invariant-loop-j l = (l.j ≤ l.n) × Covers l.start l.nstart (list_at l.words l.at l.j)
-
-abbrev pub decreases-loop-j : goal.decreases-loop-j
-decreases-loop-j l = l.n - l.j
+invariant-loop-j l = Covers l.start l.nstart (list_at l.words l.at l.j)

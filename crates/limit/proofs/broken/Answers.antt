@@ -1,9 +1,6 @@
-use Rattle.limit.proofs.Breaking.{broken_fits, broken_word, broken_means}
+use Rattle.limit.proofs.Breaking.{broken_word, broken_means}
 use Rattle.limit.specs.Limit.{decode}
 use Rattle.limit.proofs.broken.Goals as goal
-
-pub overflow_sub-result : goal.overflow_sub-result
-overflow_sub-result c = broken_fits c.args.word c.ranges.word c.requires
 
 pub returns-clause-value : goal.returns-clause-value
 returns-clause-value c = broken_word c.args.word c.ranges.word c.requires

@@ -4,12 +4,6 @@ use Rattle.touching.proofs.Sharing.{share_tests}
 use Rattle.words.specs.Words.{word}
 use Rattle.touching.proofs.share.Goals as goal
 
-pub room-requires : goal.room-requires
-room-requires c = rw (back {z = word c.args.a.now c.args.i} (record { sfits = c.room-arg-2-1.given })) c.requires.2
-
-pub room-requires-2 : goal.room-requires-2
-room-requires-2 c = rw (back {z = word c.args.a.now (c.args.i + 1)} (record { sfits = c.room-arg-4-1.given })) c.requires.3
-
 pub returns : goal.returns
 returns c =
     let a = c.args.a.now in

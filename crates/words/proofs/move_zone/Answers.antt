@@ -1,9 +1,6 @@
-use Rattle.std.proofs.Common.{◌∙◌}
-use Rattle.words.proofs.Signed.{zone_kept}
+use Rattle.std.proofs.Common.{◌∙◌, arith}
+use Rattle.words.proofs.Words.{pasted_zone}
 use Rattle.words.proofs.move_zone.Goals as goal
 
 pub returns : goal.returns
-returns c =
-    let the-s = c.s-1 in
-    let a = c.args in
-    c.write_words.ensures ∙ zone_kept _ _ a.words.now a.from (record { sfits = the-s.given }) (record { sfits = c.ns-1.given }) (record { sfits = c.e-1.given }) (record { sfits = c.ne-1.given }) (record { sfits = c.l-1.given }) (record { sfits = c.nl-1.given })
+returns c = c.copy_within.ensures.after ∙ pasted_zone c.args.words.now c.args.from c.args.to _ (omega arith) (omega arith)

@@ -1,19 +1,15 @@
-use Rattle.std.proofs.Common.{pos, rules}
-use Rattle.limit.proofs.Signed.{read_back}
-use Rattle.limit.specs.declared.Limit.TheVariants.{AtMost}
+use Rattle.std.proofs.Common.{ap}
+use Rattle.limit.specs.Limit.{nought}
 use Rattle.zone.proofs.Means.{diagonal_means}
-use Rattle.zone.specs.Zone.{diagonal}
+use Rattle.zone.specs.Zone.{Zone, everything, diagonal}
 use Rattle.zone.proofs.Zone.diagonal.Goals as goal
 
 pub returns-clause-value : goal.returns-clause-value
-unfolding diagonal
+unfolding everything diagonal
 returns-clause-value c =
-    let last = read_back (search rules) c.positive-last.ensures in
-    let first = read_back (search rules) c.negative-first.ensures in
-    λ i. record { start = AtMost (last i); nstart = AtMost (first i); end = AtMost (last i); nend = AtMost (first i); length = AtMost (pos 0); nlength = AtMost (pos 0) }
+    ap (λ (z : Zone). record { start = z.start; nstart = z.nstart; end = z.end; nend = z.nend; length = nought; nlength = z.nlength }) c.everything.ensures.value
 
 pub returns-clause-meaning : goal.returns-clause-meaning
-unfolding diagonal
 returns-clause-meaning c =
     let a = c.args in
     diagonal_means a.from a.to (returns-clause-value c)
