@@ -5,6 +5,7 @@
 // The recording and the drill follow. Word i of either buffer is i before the call.
 #![tactic(auto)]
 
+use case_parts::Case;
 use std::io;
 use std::io::Read;
 
@@ -30,23 +31,23 @@ fn call(
     case_prints::print_call(rt, outcome, answer, work, told)
 }
 
-// The call with so many words of both buffers.
-fn run(
-    rt: &impl Print,
-    recording: &[u8],
-    drill: &[u8],
-    a: usize,
-    w: usize,
-    told: usize,
-) -> io::Result<()> {
-    if ANSWER_MOST < a || WORK_MOST < w {
+// The call of a case, with so many words of both buffers; none where the case has more than the largest.
+fn run(rt: &impl Print, case: &Case, recording: &[u8], drill: &[u8]) -> io::Result<()> {
+    if ANSWER_MOST < case.answer || WORK_MOST < case.work {
         return Ok(());
     }
     let mut answer = [0i32; ANSWER_MOST];
     let mut work = [0i32; WORK_MOST];
     case_parts::fill(&mut answer);
     case_parts::fill(&mut work);
-    call(rt, recording, drill, &mut answer[..a], &mut work[..w], told)
+    call(
+        rt,
+        recording,
+        drill,
+        &mut answer[..case.answer],
+        &mut work[..case.work],
+        case.told,
+    )
 }
 
 // The next n bytes of the input, put at the front of the buffer: none where it has no room for them, or not all of them come.
@@ -57,32 +58,30 @@ fn next_bytes<'a>(input: &mut impl Read, buffer: &'a mut [u8], n: usize) -> Opti
     Some(&buffer[..n])
 }
 
-// Reads case k and runs it; answers whether it was all there.
-fn next_case(rt: &impl Print, input: &mut impl Read, k: u64) -> io::Result<bool> {
+// The next case of the input with its recording and its drill, if all of it is there.
+fn next_case<'a>(
+    input: &mut impl Read,
+    bytes: &'a mut [u8],
+    text: &'a mut [u8],
+) -> Option<(Case, &'a [u8], &'a [u8])> {
     let mut head = [0u8; 20];
-    if next_bytes(input, &mut head, 20).is_none() {
-        return Ok(false);
-    }
+    next_bytes(input, &mut head, 20)?;
     let case = case_parts::numbers(&head);
-    let mut bytes = [0u8; RECORDING_BYTES];
-    let Some(recording) = next_bytes(input, &mut bytes, case.recording) else {
-        return Ok(false);
-    };
-    let mut text = [0u8; DRILL_BYTES];
-    let Some(drill) = next_bytes(input, &mut text, case.drill) else {
-        return Ok(false);
-    };
-    case_parts::print_line(rt, b"case ", k)?;
-    run(rt, recording, drill, case.answer, case.work, case.told)?;
-    Ok(true)
+    let recording = next_bytes(input, bytes, case.recording)?;
+    let drill = next_bytes(input, text, case.drill)?;
+    Some((case, recording, drill))
 }
 
 fn main(rt: HostRuntime) -> io::Result<()> {
     let mut input = rt.stdin();
+    let mut bytes = [0u8; RECORDING_BYTES];
+    let mut text = [0u8; DRILL_BYTES];
     for k in 1..1_000_000 {
-        if !next_case(&rt, &mut input, k)? {
+        let Some((case, recording, drill)) = next_case(&mut input, &mut bytes, &mut text) else {
             break;
-        }
+        };
+        case_parts::print_line(&rt, b"case ", k)?;
+        run(&rt, &case, recording, drill)?;
     }
     Ok(())
 }
