@@ -14,7 +14,7 @@ ghost use Rattle.delivery.specs.Working.{refusal_of, Works};
 
 use outcome::{Finished, Refusal};
 use primaries::Window;
-use purse::Evaluated;
+use purse::{Listed, Stopped};
 use recording::Recording;
 
 // The work words that a call needs.
@@ -62,7 +62,7 @@ fn fill(work: &[i32], answer: &mut [i32], count: usize)
 
 // The evaluated list in front of the answer, where that has room for it; the rounds it had are spent, those of a list without room too.
 fn deliver(
-    evaluated: Evaluated,
+    evaluated: Result<Listed, Stopped>,
     left: &mut u64,
     work: &[i32],
     answer: &mut [i32],
@@ -71,23 +71,23 @@ fn deliver(
     ensures { (result ≡ comes_to evaluated left.old (length answer.old)) × (left.new ≡ left_of evaluated) × (answer.new ≡ answer_after evaluated work.now answer.old) }
 {
     match evaluated {
-        Evaluated::Listed { count, left: after } => {
-            let rounds = *left - after;
-            *left = after;
-            if answer.len() / words::ZONE_WORDS < count {
+        Ok(list) => {
+            let rounds = *left - list.left;
+            *left = list.left;
+            if answer.len() / words::ZONE_WORDS < list.count {
                 return Err(Shortage::AnswerShort);
             }
-            fill(work, answer, count);
+            fill(work, answer, list.count);
             Ok(Finished {
-                zones: count,
+                zones: list.count,
                 rounds,
             })
         }
-        Evaluated::Overflow { left: unspent } => {
+        Err(Stopped::Overflow { left: unspent }) => {
             *left = unspent;
             Err(Shortage::Overflow)
         }
-        Evaluated::Spent => {
+        Err(Stopped::Spent) => {
             *left = 0;
             Err(Shortage::RoundsSpent)
         }

@@ -1,5 +1,6 @@
 // The finder for programs in other languages: its calls on numbers and slices alone, with what `finder`, `lessons` and `outcome` promise
-// of them.
+// of them. What they take and answer is the C interface: `zikpasho_find` and `zikpasho_within` stay two functions, and what is returned goes
+// into a number and lent places.
 #![tactic(auto)]
 
 ghost use Rattle.std.specs.Prelude.{◌≡◌, ◌∷◌, ◌≤◌, ◌<◌, length, drop};
@@ -10,7 +11,7 @@ ghost use Rattle.exports.specs.Exports.{Called, Uncalled, CalledWithin, Uncalled
 use outcome::Returned;
 
 // What no refusal has for its number: no call was made. C is given numbers alone.
-const NO_CALL: u32 = 4_294_967_295;
+const NO_CALL: u32 = u32::MAX;
 
 // Puts the zones and the rounds that are returned into the first two counts, and answers the number.
 fn report(returned: Returned, counts: &mut [u64]) -> u32

@@ -1,5 +1,5 @@
 -- There is room for the sheet of every outcome.
-use mathlib.Core.Path.{◌≡◌, ap, subst, ◌∙◌}
+use mathlib.Core.Path.{◌≡◌, refl, ap, subst, ◌∙◌}
 use mathlib.Core.List.{List}
 use Prim.Native.Nat.{ℕ, ◌*◌, ◌≤◌}
 use native.Mathlib.Decide.{dec_le}
@@ -14,6 +14,7 @@ use Rattle.outcome.specs.Outcome.{returned, front_of}
 use Rattle.outcome.proofs.Numbers.{zero_finished}
 use Rattle.calls.specs.Outcome.{room, FindAs}
 use Rattle.finder.proofs.Sizes.{few_zones, few_rounds, front_length, front_ranged}
+use Rattle.std.specs.Result.{IsOk}
 use Rattle.sheet.specs.Sheet.{sheet}
 use Rattle.std.specs.Prelude.{Result, Ok, Err}
 use Rattle.sheet.specs.declared.Unprinted.{Unprinted}
@@ -54,6 +55,10 @@ module _ {bytes text : List ℕ} {o : Outcome} {answer₁ work₁ : List ℤ} (c
   abbrev pub Prints : List ℕ → List ℕ → Result ℕ Unprinted → Type 0
   Prints out out' (Ok n) = MarkedAs bytes text (take n out') × (IsPrefixLen n out' × (drop n out' ≡ drop n out))
   Prints out out' (Err e) = ⊥
+
+  pub is_printed : (out out' : List ℕ) (w : Result ℕ Unprinted) → Prints out out' w → IsOk w
+  is_printed out out' (Ok n) p = refl
+  is_printed out out' (Err e) p = absurd p
 
   pub prints : {told : Returned} {words : List ℤ} (out out' : List ℕ) (w : Result ℕ Unprinted) → told ≡ returned o → words ≡ front_of answer₁ told.zones → longest ≤ length out
       → w ≡ answer (returned o) words (length out) → out' ≡ left (returned o) words out → Prints out out' w

@@ -19,9 +19,6 @@ pub fn sheet_of(recording: &[u8], drill: &[u8], out: &mut [u8; sheet::LONGEST]) 
     let mut work = [0i32; WORK_WORDS];
     let outcome = finder::find(recording, drill, &mut answer, &mut work);
     let told = Returned::from(outcome);
-    match sheet::text(outcome, outcome::front(&answer, told.zones), out) {
-        Ok(size) => size,
-        // Never: the front is told its own zones, and no sheet is longer.
-        Err(_) => 0,
-    }
+    // The front is told its own zones, and no sheet is longer than the buffer.
+    sheet::text(outcome, outcome::front(&answer, told.zones), out).unwrap()
 }

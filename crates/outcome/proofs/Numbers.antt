@@ -1,11 +1,10 @@
 -- An outcome is known by its number.
 use mathlib.Core.Path.{◌≡◌, refl, sym, ap, ◌∙◌}
-use mathlib.Core.Logic.{◌⊎◌, inl, inr, ⊎_elim}
 use mathlib.Core.List.{List, [], ◌∷◌}
 use Prim.Native.Nat.{ℕ, ◌-◌, ◌<◌}
 use native.Mathlib.Omega.{arith}
 use lib.ListN.{get_or}
-use Rattle.outcome.specs.Outcome.{Outcome, Ok, Err, Finished, Refusal, RecordingLength, RecordingHead, RecordingChange, DrillLength, DrillForm, DrillLetter, DrillRange, DrillDepth, WorkShort, Overflow, AnswerShort, SheetForm, RoundsSpent, number_of, returned, listing}
+use Rattle.outcome.specs.Outcome.{Outcome, Ok, Err, Refusal, RecordingLength, RecordingHead, RecordingChange, DrillLength, DrillForm, DrillLetter, DrillRange, DrillDepth, WorkShort, Overflow, AnswerShort, SheetForm, RoundsSpent, number_of, returned, listing}
 
 -- the refusals, in the order of their numbers
 abbrev numbered : List Refusal
