@@ -17,8 +17,8 @@ use text::Text;
 // Room for all that a lesson prints: eight results, each behind a line with its number.
 pub const LONGEST: usize = 98_320;
 
-// What a lesson comes to: 0, or the number that refuses it; and how many bytes are printed. A refusal is printed too, so that both are always
-// there, and the number is what the C interface hands out (`zikpasho_lesson`).
+// What a lesson comes to: 0, or the number that refuses it; and how many bytes are printed. A refused lesson prints its refusal, so that both
+// stand beside one another, and the number is what C is given.
 #[derive(Clone, Copy)]
 pub struct Lesson {
     pub number: u32,
