@@ -1,25 +1,7 @@
 -- What the private functions answer. No public contract cites it.
-use Rattle.std.specs.Prelude.{◌≡◌, ◌+◌, Option, Some, None}
-use Rattle.zone.specs.declared.Zone.{Zone}
-use Rattle.zone.specs.Zone.{Touches}
+use Rattle.std.specs.Prelude.{◌+◌}
 use Rattle.growing.specs.declared.Growing.{Growing}
-use Rattle.pairs.specs.Pairs.{Operation, Meet, Compose, apply}
 
 -- the list with one pair more
 abbrev pub one_more : Growing → Growing
 one_more g = record { count = g.count; changed = g.changed; pairs = g.pairs + 1; latest = g.latest }
-
--- .. if the operation composes
-abbrev pub counting : Operation → Growing → Growing
-counting Meet g = g
-counting Compose g = one_more g
-
--- a pair that is composed has a time in common
-abbrev pub Composable : Operation → Zone → Zone → Type 0
-Composable Meet z w = Unit {0}
-Composable Compose z w = Touches z w
-
--- what an operation makes of a pair
-abbrev pub CombinedAs : Operation → Zone → Zone → Option Zone → Type 0
-CombinedAs op z w None = apply op z w ≡ None
-CombinedAs op z w (Some v) = (apply op z w ≡ Some v) × Composable op z w
