@@ -8,7 +8,8 @@ use mathlib.Core.List.{List, [], ◌∷◌, ◌++◌, Memᴰ}
 use Prim.Native.Nat.{ℕ, ◌<◌}
 use native.Mathlib.Omega.{arith}
 use Rattle.calls.specs.Causes.{First, NoCause, CallAs, CallAs.refused, CallAs.accepted}
-use Rattle.calls.specs.Outcome.{Outcome, listing, returned}
+use Rattle.calls.specs.Outcome.{Outcome, returned}
+use Rattle.outcome.proofs.Listing.{listing}
 use Rattle.outcome.proofs.Numbers.{zero_finished, same_number}
 
 -- ---- places in a list

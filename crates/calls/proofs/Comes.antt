@@ -8,7 +8,8 @@ use Rattle.expression.specs.Expression.{Expression}
 use Rattle.descent.proofs.Complete.{unique}
 use Rattle.meaning.specs.Lists.{Value, Evaluates}
 use Rattle.meaning.proofs.Evaluation.{evaluates_unique}
-use Rattle.calls.specs.Outcome.{listing, Comes, Finishes}
+use Rattle.calls.specs.Outcome.{Comes, Finishes}
+use Rattle.outcome.proofs.Listing.{listing}
 
 -- There is one value ..
 pub comes_unique : {bytes text : List ℕ} {v w : Value} → Comes bytes text v → Comes bytes text w → v ≡ w

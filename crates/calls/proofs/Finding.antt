@@ -25,7 +25,8 @@ use Rattle.calls.specs.Within.{CallWithin, WithinAs}
 use Rattle.outcome.proofs.Numbers.{number_range}
 use Rattle.purse.specs.Purse.{Overflowing, Exceeding, Spending}
 use Rattle.delivery.specs.Working.{refusal_of, WorkedAs}
-use Rattle.calls.specs.Refusals.{recording_refusal, drill_refusal}
+use Rattle.calls.specs.Refusals.{recording_refusal}
+use Rattle.calls.specs.Steps.{drill_refusal}
 use Rattle.calls.proofs.Outcomes.{Without, recordings, drills, recording_call, drill_call, drill_none, work_call, overflow_call, spent_call, answer_call, accepted_call}
 
 -- A call whose outcome leaves both buffers as they were.

@@ -23,7 +23,8 @@ use Rattle.meaning.proofs.Evaluation.{clash, evaluates_exists}
 use Rattle.words.specs.Words.{zone_words}
 use Rattle.outcome.proofs.Numbers.{same_number}
 use Rattle.calls.specs.Causes.{CallAs.accepted}
-use Rattle.calls.specs.Outcome.{Err, Outcome, RecordingLength, RecordingHead, RecordingChange, DrillLength, DrillForm, DrillLetter, DrillRange, DrillDepth, WorkShort, Overflow, AnswerShort, RoundsSpent, listing, returned, both, answer-buffer, leaves, Comes, largest, room, NoRoom, refusals}
+use Rattle.calls.specs.Outcome.{Err, Outcome, RecordingLength, RecordingHead, RecordingChange, DrillLength, DrillForm, DrillLetter, DrillRange, DrillDepth, WorkShort, Overflow, AnswerShort, RoundsSpent, returned, both, answer-buffer, leaves, Comes, largest, room, NoRoom, refusals}
+use Rattle.outcome.proofs.Listing.{listing}
 use Rattle.calls.specs.Refusals.{recording_refusal}
 use Rattle.calls.specs.Within.{CauseWithin, refusals_within, CallWithin}
 use Rattle.purse.specs.Purse.{Overflowing, Exceeding}

@@ -3,3 +3,4 @@ pub mod Causes
 pub mod Outcome
 pub mod Within
 pub mod Refusals
+pub mod Steps

@@ -26,7 +26,7 @@ pub use Rattle.outcome.specs.declared.Refusal.TheVariants.{
   SheetForm,
   RoundsSpent,
 }
-pub use Rattle.outcome.specs.Outcome.{Outcome, Ok, Err, number_of, returned, listing, Left, both, answer-buffer, delivered, leaves, front_of}
+pub use Rattle.outcome.specs.Outcome.{Outcome, Ok, Err, number_of, returned, Left, both, answer-buffer, delivered, leaves, front_of}
 
 -- ---- the causes
 

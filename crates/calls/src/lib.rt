@@ -9,7 +9,8 @@
 ghost use Rattle.std.specs.Prelude.{◌≡◌, ◌*◌, ◌≤◌, min, length, Ok};
 ghost use Rattle.recording.specs.Reading.{ReadingAs};
 ghost use Rattle.calls.specs.Outcome.{largest};
-ghost use Rattle.calls.specs.Refusals.{recording_refusal, drill_refusal};
+ghost use Rattle.calls.specs.Refusals.{recording_refusal};
+ghost use Rattle.calls.specs.Steps.{drill_refusal};
 ghost use Rattle.calls.specs.Within.{WithinAs};
 
 use outcome::{Outcome, Refusal};

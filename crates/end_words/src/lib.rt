@@ -15,6 +15,7 @@ use limit::Limit;
 // The words of the ends.
 pub const END_WORDS: usize = 3;
 
+// The words of the latest and of the earliest end. They have nothing in common but the two cases, as the functions of `extremes` that make them.
 fn latest_word(e: Extreme) -> i32
     requires { tick_of e ≤ most_ticks }
     ensures { result ≡ code (latest_limit e) }
@@ -35,6 +36,7 @@ fn earliest_word(e: Extreme) -> i32
     }
 }
 
+// Some or none is a number here, 1 or 0, as the answer is in words.
 fn write_three(words: &mut [i32], some: i32, latest: i32, earliest: i32)
     requires { end_words ≤ length words.old }
     ensures { words.new ≡ (some ∷ latest ∷ earliest ∷ []) ++ drop end_words words.old }

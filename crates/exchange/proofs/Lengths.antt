@@ -11,7 +11,8 @@ use lib.ListN.{length, replicate, length-replicate}
 use Rattle.words.specs.Words.{zone_words}
 use Rattle.delivery.specs.Buffers.{zeroed, cleared}
 use Rattle.calls.specs.Causes.{CallAs.refused, CallAs.accepted}
-use Rattle.calls.specs.Outcome.{Err, Outcome, WorkShort, Overflow, RoundsSpent, AnswerShort, listing, returned, Left, both, answer-buffer, leaves, room, Comes, LeftAs, BuffersAs}
+use Rattle.calls.specs.Outcome.{Err, Outcome, WorkShort, Overflow, RoundsSpent, AnswerShort, returned, Left, both, answer-buffer, leaves, room, Comes, LeftAs, BuffersAs}
+use Rattle.outcome.proofs.Listing.{listing}
 use Rattle.calls.specs.Within.{CauseWithin, CallWithin, WithinAs}
 use Rattle.calls.proofs.Causes.{none, ◌also◌, none_of, Alike, nothing, both as Alike-both, first_split, call_unique}
 use Rattle.calls.proofs.Comes.{finishes_once}

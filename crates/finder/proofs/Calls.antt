@@ -23,7 +23,8 @@ use Rattle.descent.proofs.Complete.{unique}
 use Rattle.parser.proofs.Parses.{answered}
 use Rattle.meaning.specs.Lists.{value, overflow, spent, Value, repeated, RoundsOf, Sum}
 use Rattle.calls.specs.Causes.{CallAs.refused, CallAs.accepted}
-use Rattle.calls.specs.Outcome.{Err, Outcome, RecordingHead, DrillLength, DrillForm, DrillLetter, DrillRange, DrillDepth, WorkShort, Overflow, AnswerShort, listing, Returned, returned, Comes, largest, CallAs, words, fronted, cleared, front_of, Left, both, answer-buffer, delivered, leaves, LeftAs, BuffersAs, FindAs}
+use Rattle.calls.specs.Outcome.{Err, Outcome, RecordingHead, DrillLength, DrillForm, DrillLetter, DrillRange, DrillDepth, WorkShort, Overflow, AnswerShort, Returned, returned, Comes, largest, CallAs, words, fronted, cleared, front_of, Left, both, answer-buffer, delivered, leaves, LeftAs, BuffersAs, FindAs}
+use Rattle.outcome.proofs.Listing.{listing}
 use Rattle.calls.specs.Within.{CallWithin, LeftAfter, WithinAs}
 use Rattle.finder.specs.Demands.{Exact, Total, NoInputCause}
 use Rattle.meaning.proofs.Evaluation.{evaluates_well, evaluates_exists}

@@ -5,7 +5,8 @@ use Prim.Native.Nat.{ℕ, ◌≤◌}
 use native.Mathlib.Omega.{arith}
 use lib.IntN.{ℤ}
 use Rattle.outcome.proofs.Numbers.{zero_finished}
-use Rattle.calls.specs.Outcome.{Outcome, listing, returned, CallAs, FindAs}
+use Rattle.calls.specs.Outcome.{Outcome, returned, CallAs, FindAs}
+use Rattle.outcome.proofs.Listing.{listing}
 use Rattle.calls.specs.Within.{CallWithin, WithinAs}
 use Rattle.finder.specs.Demands.{Demand1, Demand1Within, Demand2, Demand3, Total, NoInputCause}
 use Rattle.calls.proofs.Causes.{call_unique, number_first, number_none}

@@ -15,7 +15,8 @@ use Rattle.list.specs.Slots.{list_at}
 use Rattle.recording.specs.Reading.{ticks, wrong_head}
 use Rattle.runs.specs.Levels.{Shows}
 use Rattle.recording.proofs.Rounding.{tick_range}
-use Rattle.calls.specs.Outcome.{Err, RecordingHead, DrillLength, DrillForm, DrillLetter, DrillRange, DrillDepth, listing, NoCause, front_of, FindAs}
+use Rattle.calls.specs.Outcome.{Err, RecordingHead, DrillLength, DrillForm, DrillLetter, DrillRange, DrillDepth, NoCause, front_of, FindAs}
+use Rattle.outcome.proofs.Listing.{listing}
 use Rattle.meaning.proofs.Evaluation.{evaluates_well}
 use Rattle.calls.proofs.Rounds.{most_rounds, comes_few}
 use Rattle.calls.proofs.Causes.{number_none}

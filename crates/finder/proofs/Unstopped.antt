@@ -18,7 +18,8 @@ use Rattle.outcome.proofs.Numbers.{same_number}
 use Rattle.purse.specs.Purse.{Exceeding}
 use Rattle.calls.specs.Causes as calls
 use Rattle.calls.specs.Causes.{CallAs.refused, CallAs.accepted}
-use Rattle.calls.specs.Outcome.{Err, Outcome, WorkShort, Overflow, AnswerShort, RoundsSpent, listing, returned, leaves, Comes, Cause, refusals, CallAs, FindAs}
+use Rattle.calls.specs.Outcome.{Err, Outcome, WorkShort, Overflow, AnswerShort, RoundsSpent, returned, leaves, Comes, Cause, refusals, CallAs, FindAs}
+use Rattle.outcome.proofs.Listing.{listing}
 use Rattle.calls.specs.Within.{CauseWithin, refusals_within, CallWithin, LeftAfter, WithinAs}
 use Rattle.calls.proofs.Causes.{NoneOf, none, ◌also◌, none_of, none_append, refused_at, Alike, nothing, both, none_alike, first_split, call_unique}
 use Rattle.calls.proofs.Comes.{comes_unique, finishes_once}

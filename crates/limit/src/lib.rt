@@ -2,7 +2,8 @@
 //
 // specs/ says what a time and a limit mean; proofs/Times.antt has the laws of times, proofs/Order.antt those of limits, proofs/Coding.antt
 // those of their words. A `requires` is only of ranges. It stands at the functions and not in the type as an invariant, because any word of
-// a lent buffer is read as a limit (`from`), and a word may be far out of range.
+// a lent buffer is read as a limit (`from`), and a word may be far out of range. A tick is a number with a bound in the contract: as a type of
+// its own it would be made and taken apart at each call.
 #![tactic(auto)]
 
 ghost use Rattle.std.specs.Prelude.{◌≡◌, ◌≤◌, pos, neg_ℤ, ◌+ℤ◌, ◌-ℤ◌};

@@ -2,6 +2,10 @@
 // copied from slot to slot.
 //
 // specs/ has a definition for each, over plain lists of zones; specs/Slots.antt says how a slot holds a list.
+//
+// A list is a place and a count in the one lent buffer, here and in the crates above, and their contracts ask for both (`Slot`, `Free`, `Source`,
+// `Operands`, `Stands`, `Pairing`). It is no struct that holds the buffer: an operator reads two lists of it and writes a third, so that a struct
+// would lend the buffer to one of them alone.
 #![tactic(auto)]
 
 ghost use Rattle.std.specs.Prelude.{◌≡◌, ◌⊎◌, ◌+◌, ◌*◌, ◌≤◌, ◌<◌, length};

@@ -46,7 +46,7 @@ use Rattle.parser.proofs.Parses.{right_length, accepted}
 use Rattle.meaning.specs.Fits.{Fits}
 use Rattle.meaning.proofs.Reported.{either_level}
 use Rattle.meaning.specs.Lists.{value, ended, Then.goes, run_zones, Letter, moment_zones, Moments, Evaluates}
-use Rattle.outcome.specs.Outcome.{listing}
+use Rattle.outcome.proofs.Listing.{listing}
 use Rattle.calls.specs.Outcome.{Comes, room, words, fronted, cleared, FindAs}
 use Rattle.marked.specs.Marked.{R, Row, marked, Gives, RowHolds}
 use Rattle.calls.proofs.Outcomes.{recordings, drills, Without, recording_call, drill_none, accepted_call}

@@ -1,3 +1,4 @@
--- `Numbers` and `Fronts` are laws for the crates above.
+-- `Listing`, `Numbers` and `Fronts` are for the crates above.
+pub mod Listing
 pub mod Numbers
 pub mod Fronts

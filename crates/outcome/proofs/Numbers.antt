@@ -4,7 +4,8 @@ use mathlib.Core.List.{List, [], ◌∷◌}
 use Prim.Native.Nat.{ℕ, ◌-◌, ◌<◌}
 use native.Mathlib.Omega.{arith}
 use lib.ListN.{get_or}
-use Rattle.outcome.specs.Outcome.{Outcome, Ok, Err, Refusal, RecordingLength, RecordingHead, RecordingChange, DrillLength, DrillForm, DrillLetter, DrillRange, DrillDepth, WorkShort, Overflow, AnswerShort, SheetForm, RoundsSpent, number_of, returned, listing}
+use Rattle.outcome.specs.Outcome.{Outcome, Ok, Err, Refusal, RecordingLength, RecordingHead, RecordingChange, DrillLength, DrillForm, DrillLetter, DrillRange, DrillDepth, WorkShort, Overflow, AnswerShort, SheetForm, RoundsSpent, number_of, returned}
+use Rattle.outcome.proofs.Listing.{listing}
 
 -- the refusals, in the order of their numbers
 abbrev numbered : List Refusal

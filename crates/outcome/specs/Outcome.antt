@@ -25,10 +25,6 @@ pub use Rattle.outcome.specs.declared.Refusal.TheVariants.{
 abbrev pub Outcome : Type 0
 Outcome = Result Finished Refusal
 
--- the finished list of so many zones and rounds
-abbrev pub listing : (zones rounds : ℕ) → Outcome
-listing zones rounds = Ok (record { zones = zones; rounds = rounds })
-
 -- ---- what is returned
 
 -- the table's numbers, and those of the requests after it

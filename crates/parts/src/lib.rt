@@ -1,7 +1,8 @@
 // The parts of a zone outside another, of their words: a part breaks one limit of the other zone and keeps to those before it. A
 // limit on a quantity is broken by a limit on the negated quantity, whose word stands beside its own.
 //
-// specs/Parts.antt says which parts there are; proofs/Laws.antt is the page of laws that crates above cite.
+// specs/Parts.antt says which parts there are; proofs/Laws.antt is the page of laws that crates above cite. A limit is named by its place, 0 to 5,
+// since its word is what is compared; that a zone can be cut (`Cuttable`) is asked and no type, since a zone is six words of any buffer.
 #![tactic(auto)]
 
 ghost use Rattle.std.specs.Prelude.{◌≡◌, cond, ◌<◌, eqb, length};

@@ -1,6 +1,6 @@
 // Switch recordings. `read` judges any bytes: they are turned back, by the table's number, or they are a recording of so many
 // ticks, channels and changes. Of a `Recording`, which was read, `begins` and `levels` tell where a change holds from, and what
-// it sets.
+// it sets. The functions that `read` calls ask that record j is there, since they read bytes that are no recording yet.
 #![tactic(auto)]
 
 ghost use Rattle.std.specs.Prelude.{◌≡◌, ◌&&◌, ◌||◌, ◌+◌, ◌-◌, ◌*◌, ◌^◌, ◌≤◌, ◌<◌, leb, ltb, length, MatchResult, Ok, Err};

@@ -4,7 +4,8 @@ use mathlib.Core.List.{[], ◌∷◌, ◌++◌}
 use Prim.Native.Nat.{ℕ}
 use lib.IntN.{ℤ, pos, neg_ℤ}
 use Rattle.outcome.specs.declared.Refusal.TheVariants.{DrillForm, Overflow}
-use Rattle.outcome.specs.Outcome.{Err, returned, listing}
+use Rattle.outcome.specs.Outcome.{Err, returned}
+use Rattle.outcome.proofs.Listing.{listing}
 use Rattle.words.specs.Words.{zone_at}
 use Rattle.text.specs.Text.{ascii}
 use Rattle.text.specs.Decimal.{next, counted, decimal, integer}

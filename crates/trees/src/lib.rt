@@ -1,7 +1,8 @@
 // Trees of a drill's nodes in a lent buffer of words, put together from the leaves up. A node is stored behind its operands, and its
 // tree keeps what the checks 5 to 8 of document 01 ask of the text that it was read from.
 //
-// specs/Trees.antt says what a tree keeps. What stands in a text, and where, is found in `parser`.
+// specs/Trees.antt says what a tree keeps. What stands in a text, and where, is found in `parser`. Each call asks for room for its node (`Room`),
+// since the caller lends the words.
 #![tactic(auto)]
 
 ghost use Rattle.std.specs.Prelude.{◌≡◌, max};

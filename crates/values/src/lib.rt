@@ -1,7 +1,8 @@
 // What an operator comes to from the finished lists of its operands, in slots of a lent work buffer. A list is built in a free slot and brought
 // to its place.
 //
-// The crate `purse` says how a slot holds a value; `meaning` which value it is.
+// The crate `purse` says how a slot holds a value; `meaning` which value it is. That a range is not wrong (`Wrong`) is asked and no type, since the
+// words of a node may stand for any range.
 #![tactic(auto)]
 
 ghost use Rattle.std.specs.Prelude.{◌≡◌, ◌⊎◌, ◌+◌, ◌*◌, ◌≤◌};

@@ -1,6 +1,7 @@
 // Zones in the words of a lent buffer: six words a zone, each the word of a limit. Reading, writing and copying.
 //
-// specs/Words.antt says which zone stands where; proofs/Words.antt has the laws that crates above cite.
+// specs/Words.antt says which zone stands where; proofs/Words.antt has the laws that crates above cite. Each function asks that six words stand
+// from a place on: a place says nothing without its buffer, and each call has another.
 #![tactic(auto)]
 
 ghost use Rattle.std.specs.Prelude.{◌≡◌, [], ◌∷◌, ◌+◌, ◌≤◌, ◌<◌, length};

@@ -1,7 +1,7 @@
 -- `with_nodes` meets its contract: the parser answers a refusal, or the tree that is worked out.
 use Rattle.std.proofs.lemmas.Result.{err_from_is_err_and}
 use Rattle.std.proofs.Common.{◌≡◌, Ok, Err}
-use Rattle.calls.specs.Refusals.{drill_refusal}
+use Rattle.calls.specs.Steps.{drill_refusal}
 use Rattle.calls.proofs.Exchanged.{error_before, value_before}
 use Rattle.calls.proofs.Finding.{drill_read, found}
 use Rattle.expression.proofs.Laws.{root_planted}
