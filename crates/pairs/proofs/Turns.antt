@@ -11,7 +11,7 @@ use lib.Dec.{T}
 use lib.IntN.{ℤ}
 use lib.ListN.{length, length-map}
 use Rattle.zone.specs.declared.Zone.{Zone}
-use Rattle.zone.specs.Zone.{Proper, Ranged, Touches, compose, meet}
+use Rattle.zone.specs.Zone.{Proper, Ranged, Touches, compose}
 use Rattle.zone.proofs.Laws.{ranged, proper_meet, proper_compose, compose_empty}
 use Rattle.words.specs.Words.{zone_at}
 use Rattle.list.specs.Insert.{overflow, insert_each}

@@ -18,14 +18,14 @@ use list::Overflow;
 use words::{END, START, ZONE_WORDS};
 use zone::Zone;
 
-// The operations on pairs of zones, by which the specs name what the code of each comes to.
-#[derive(Clone, Copy)]
+// The operations on pairs of zones, as the specs name them. The code has a type for each, below, and no value that says which one is meant.
 pub enum Operation {
     Meet,
     Compose,
 }
 
-// The code of an operation. The loops over pairs are generic in it, so that each operation has loops of its own and no pair asks which one it is.
+// The code of an operation. The loops over pairs are generic in it, so each operation has loops of its own, and none asks for each pair which
+// one it is.
 pub trait Combine {
     ghost op: { Operation };
 
@@ -33,7 +33,8 @@ pub trait Combine {
     fn side() -> usize
         ensures { result ≡ side op };
 
-    // What the operation makes of the zones at `left` and at `right`.
+    // What the operation makes of the zones at `left` and at `right`. They are read anew for each pair, so that no word of them is kept over
+    // a put.
     fn combined(words: &[i32], left: usize, right: usize) -> Option<Zone>
         requires { (left + zone_words ≤ length words.now) × (right + zone_words ≤ length words.now) × (Proper 0 1_000_000 (zone_at words.now left)) × (Proper 0 1_000_000 (zone_at words.now right)) }
         ensures { CombinedAs op (zone_at words.now left) (zone_at words.now right) result };
@@ -99,8 +100,7 @@ fn compose_touching(z: Zone, w: Zone) -> Option<Zone>
     z.compose(w)
 }
 
-// Puts the meet or the composition of the zone at `left` with each of the m zones from `right` on; an empty one is passed over. The left
-// zone is read anew for each, so that no word of it is kept over a put.
+// Puts the meet or the composition of the zone at `left` with each of the m zones from `right` on; an empty one is passed over.
 pub fn each_right<C: Combine>(
     words: &mut [i32],
     left: usize,
