@@ -1,4 +1,4 @@
--- What the code of an operation answers for one pair, and by which limits it goes.
+-- What the code of an operation answers for one pair, and by which limits of the left zone it passes others over.
 use Rattle.std.specs.Prelude.{◌≡◌, ℕ, ◌+◌, Option, Some, None}
 use Rattle.zone.specs.declared.Zone.{Zone}
 use Rattle.zone.specs.Zone.{Touches}
@@ -24,7 +24,8 @@ abbrev pub CombinedAs : Operation → Zone → Zone → Option Zone → Type 0
 CombinedAs op z w None = apply op z w ≡ None
 CombinedAs op z w (Some v) = (apply op z w ≡ Some v) × Composable op z w
 
--- the word of a left zone from which the limits stand that an operation goes by: those of its starts for a meet, of its ends for a composition
+-- the word of a left zone from which the limits stand that must have a time in common with a right zone's starts: those of its starts for a meet,
+-- of its ends for a composition
 abbrev pub side : Operation → ℕ
 side Meet = 0
 side Compose = 2

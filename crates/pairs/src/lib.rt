@@ -29,7 +29,8 @@ pub enum Operation {
 pub trait Combine {
     ghost op: { Operation };
 
-    // The word of a left zone from which the limits stand that it goes by: those of its starts for a meet, of its ends for a composition.
+    // The word of a left zone from which the limits stand that must have a time in common with a right zone's starts: those of its starts for a
+    // meet, of its ends for a composition.
     fn side() -> usize
         ensures { result ≡ side op };
 
