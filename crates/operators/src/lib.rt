@@ -14,7 +14,7 @@ ghost use Rattle.operators.specs.Listing.{Workspace, SoundBand, BuiltAs, Compose
 
 use growing::Growing;
 use list::Overflow;
-use pairs::Operation;
+use pairs::{Compose, Meet};
 use words::ZONE_WORDS;
 use zone::Zone;
 
@@ -87,7 +87,7 @@ pub fn meets(
     ensures kept { Kept target slot_words words.old words.new }
 {
     let empty = growing::nothing();
-    let g = products::each_pair(words, Operation::Meet, left, n, right, m, target, empty)?;
+    let g = products::each_pair::<Meet>(words, left, n, right, m, target, empty)?;
     Ok(g.count)
 }
 
@@ -106,7 +106,7 @@ pub fn compositions(
     ensures kept { Kept target slot_words words.old words.new }
 {
     let empty = growing::nothing();
-    let g = products::each_pair(words, Operation::Compose, left, n, right, m, target, empty)?;
+    let g = products::each_pair::<Compose>(words, left, n, right, m, target, empty)?;
     Ok(Composed {
         count: g.count,
         pairs: g.pairs,

@@ -16,7 +16,7 @@ use Rattle.growing.specs.Growth.{Stands, NoPair, Growth}
 use Rattle.pairs.specs.Counted.{Counted, none, with, without}
 use Rattle.pairs.specs.Pairs.{Operation, Meet, Compose, apply, Composed}
 use Rattle.pairs.specs.Row.{applied}
-use Rattle.pairs.specs.Steps.{one_more}
+use Rattle.pairs.specs.Combined.{one_more}
 use Rattle.list.proofs.Slots.{kept_refl}
 use Rattle.list.proofs.Puts.{holds_same}
 use Rattle.growing.proofs.Going.{Going, going_start, going_same, going_on, going_overflow, going_end}

@@ -1,6 +1,6 @@
 -- A turn of the loops over right zones: the pair at hand, and what comes of it.
 use Rattle.std.specs.Prelude.{Option, Some, None}
-use mathlib.Core.Path.{◌≡◌, sym, ap, subst, ◌∙◌}
+use mathlib.Core.Path.{◌≡◌, refl, sym, ap, subst, ◌∙◌}
 use mathlib.Core.Bool.{Bool, true, false}
 use mathlib.Core.Logic.{◌↔◌}
 use mathlib.Core.List.Memᴰ.{eq_of_singleton}
@@ -11,7 +11,7 @@ use lib.Dec.{T}
 use lib.IntN.{ℤ}
 use lib.ListN.{length, length-map}
 use Rattle.zone.specs.declared.Zone.{Zone}
-use Rattle.zone.specs.Zone.{Proper, Ranged, Touches, compose, meet}
+use Rattle.zone.specs.Zone.{Proper, Ranged, Touches, compose}
 use Rattle.zone.proofs.Laws.{ranged, proper_meet, proper_compose, compose_empty}
 use Rattle.words.specs.Words.{zone_at}
 use Rattle.list.specs.Insert.{overflow, insert_each}
@@ -21,9 +21,16 @@ use Rattle.growing.specs.declared.Growing.{Growing}
 use Rattle.growing.specs.Growth.{Stands, NoPair, Growth}
 use Rattle.pairs.specs.Pairs.{Operation, Meet, Compose, apply, beside, Composed}
 use Rattle.pairs.specs.Row.{most_pairs, applied, Pairing}
-use Rattle.pairs.specs.Steps.{one_more}
+use Rattle.pairs.specs.Combined.{counting, CombinedAs}
 use Rattle.pairs.proofs.Zones.{still_zones, proper_there, proper_one, read_there, read_one}
 use Rattle.pairs.proofs.Combining.{Combining, combining_same, combining_most, combining_on, combining_overflow, combining_past, met, composed_one}
+
+-- two zones have a composition exactly if an end of the one is a start of the other
+pub apart_empty : {z w : Zone} → Proper 0 1_000_000 z → Proper 0 1_000_000 w → ¬ Touches z w → compose z w ≡ None
+apart_empty p q n = (compose_empty p.tight q.tight).1 (λ x t y a b. n (x, t, y, a, b))
+
+empty_apart : {z w : Zone} → Proper 0 1_000_000 z → Proper 0 1_000_000 w → compose z w ≡ None → ¬ Touches z w
+empty_apart p q e t = (compose_empty p.tight q.tight).0 e t.0 t.1 t.2 t.3 t.4
 
 module _ {ws₀ : List ℤ} {left right m target : ℕ} {g₀ : Growing} (p : Pairing ws₀ left right m target g₀) where
   -- the pairs from the j-th right zone on
@@ -74,34 +81,30 @@ module _ {ws₀ : List ℤ} {left right m target : ℕ} {g₀ : Growing} (p : Pa
       pub pair_overflow : {v : Zone} → apply op z w ≡ Some v → {P : Type 0} → (insert_each (Some v ∷ []) (list_at ws target g.count) ≡ overflow) × P → (insert_each (map (applied op) all) (list_at ws₀ target g₀.count) ≡ overflow) × P
       pair_overflow e o = combining_overflow ((z, w) ∷ []) (from (j + 1)) ahead (ap (λ (r : Option Zone). insert_each (r ∷ []) (list_at ws target g.count)) e ∙ o.0, o.1)
 
-    module _ {g : Growing} (c : Combining Meet (from j) all g₀ target ws₀ ws g) where
-      pub met_past : meet z w ≡ None → Combining Meet (from (j + 1)) all g₀ target ws₀ ws g
-      met_past e = pair_past c e (λ n. n)
+    -- what an operation makes of them has room in six words
+    pub combined_ranged : (op : Operation) {v : Zone} → apply op z w ≡ Some v → Ranged 1_000_000 v
+    combined_ranged Meet e = ranged (proper_meet w pair_ready.2 e)
+    combined_ranged Compose e = ranged (proper_compose pair_ready.2 pair_ready.3 e)
 
-      pub met_on : {v : Zone} → meet z w ≡ Some v → {vs : List ℤ} {h : Growing} → Growth (insert_each (Some v ∷ []) (list_at ws target g.count)) NoPair g (list_at ws target g.count) vs target h → Kept target 768 ws vs → Combining Meet (from (j + 1)) all g₀ target ws₀ vs h
-      met_on e b f = combining_on ((z, w) ∷ []) (from (j + 1)) (ahead c) (met e b) f
+    -- .. nothing, which is passed over
+    pub combined_past : (op : Operation) {g : Growing} → Combining op (from j) all g₀ target ws₀ ws g → apply op z w ≡ None → Combining op (from (j + 1)) all g₀ target ws₀ ws g
+    combined_past Meet c e = pair_past c e (λ n. n)
+    combined_past Compose c e = pair_past c e (empty_apart pair_ready.2 pair_ready.3 e)
 
-    module _ {g : Growing} (c : Combining Compose (from j) all g₀ target ws₀ ws g) where
-      -- no end of the one is a start of the other
-      pub apart_past : ¬ Touches z w → Combining Compose (from (j + 1)) all g₀ target ws₀ ws g
-      apart_past n = pair_past c ((compose_empty pair_ready.2.tight pair_ready.3.tight).1 (λ x t y a b. n (x, t, y, a, b))) n
-
-      pub composed_on : {v : Zone} → compose z w ≡ Some v → Touches z w → {vs : List ℤ} {h : Growing} → Growth (insert_each (Some v ∷ []) (list_at ws target g.count)) NoPair (one_more g) (list_at ws target g.count) vs target h → Kept target 768 ws vs → Combining Compose (from (j + 1)) all g₀ target ws₀ vs h
-      composed_on e t b f = combining_on ((z, w) ∷ []) (from (j + 1)) (ahead c) (composed_one e t b) f
-
-    -- two that touch have a composition
-    pub touching_some : Touches z w → ¬ (compose z w ≡ None)
-    touching_some t e = (compose_empty pair_ready.2.tight pair_ready.3.tight).0 e t.0 t.1 t.2 t.3 t.4
-
-    pub composed_ranged : {v : Zone} → compose z w ≡ Some v → Ranged 1_000_000 v
-    composed_ranged e = ranged (proper_compose pair_ready.2 pair_ready.3 e)
-
-    pub met_ranged : {v : Zone} → meet z w ≡ Some v → Ranged 1_000_000 v
-    met_ranged e = ranged (proper_meet w pair_ready.2 e)
+    -- .. or one, which is put
+    pub combined_on : (op : Operation) {g : Growing} → Combining op (from j) all g₀ target ws₀ ws g → {v : Zone} → CombinedAs op z w (Some v) → {vs : List ℤ} {h : Growing}
+        → Growth (insert_each (Some v ∷ []) (list_at ws target (counting op g).count)) NoPair (counting op g) (list_at ws target (counting op g).count) vs target h → Kept target 768 ws vs → Combining op (from (j + 1)) all g₀ target ws₀ vs h
+    combined_on Meet c a b f = combining_on ((z, w) ∷ []) (from (j + 1)) (ahead c) (met a.0 b) f
+    combined_on Compose c a b f = combining_on ((z, w) ∷ []) (from (j + 1)) (ahead c) (composed_one a.0 a.1 b) f
 
 -- the list with one pair more stands as it stood
-pub one_more_stands : {ws : List ℤ} {target : ℕ} {g : Growing} → Stands ws target g → Stands ws target (one_more g)
-one_more_stands s = record { slot = s.slot; late = s.late }
+pub counting_stands : (op : Operation) {ws : List ℤ} {target : ℕ} {g : Growing} → Stands ws target g → Stands ws target (counting op g)
+counting_stands Meet s = s
+counting_stands Compose s = record { slot = s.slot; late = s.late }
+
+pub counting_count : (op : Operation) (g : Growing) → (counting op g).count ≡ g.count
+counting_count Meet g = refl
+counting_count Compose g = refl
 
 -- what the test says
 pub touched : (r : Bool) {P : Type 0} → T r ↔ P → r ≡ true → P

@@ -2,4 +2,4 @@ pub mod Counted
 pub mod Pairs
 pub mod Operands
 pub mod Row
-pub mod Steps
+pub mod Combined

@@ -4,34 +4,91 @@
 // are combined are tight and inside 0..1,000,000, which meet and composition keep.
 #![tactic(auto)]
 
-ghost use Rattle.std.specs.Prelude.{◌≡◌, ◌<◌};
-ghost use Rattle.words.specs.Words.{zone_at};
+ghost use Rattle.std.specs.Prelude.{◌≡◌, ◌+◌, ◌≤◌, ◌<◌, length};
+ghost use Rattle.words.specs.Words.{zone_words, zone_at};
 ghost use Rattle.zone.specs.Zone.{Proper, Touches, compose};
 ghost use Rattle.list.specs.Slots.{slot_words, list_at, Kept};
+ghost use Rattle.pairs.specs.declared.Operation.{Operation};
 ghost use Rattle.pairs.specs.Pairs.{beside};
 ghost use Rattle.pairs.specs.Row.{most_pairs, Pairing, PairsAs};
-ghost use Rattle.pairs.specs.Steps.{one_more};
+ghost use Rattle.pairs.specs.Combined.{counting, side, CombinedAs};
 
 use growing::Growing;
 use list::Overflow;
-use words::ZONE_WORDS;
+use words::{END, START, ZONE_WORDS};
 use zone::Zone;
 
-// The operations on pairs of zones.
-#[derive(Clone, Copy)]
+// The operations on pairs of zones, as the specs name them. The code has a type for each, below, and no value that says which one is meant.
 pub enum Operation {
     Meet,
     Compose,
 }
 
-// The list with one pair more that is composed for it.
-fn count_pair(g: Growing) -> Growing
-    requires { g.pairs < most_pairs }
-    ensures { result ≡ one_more g }
-{
-    Growing {
-        pairs: g.pairs + 1,
-        ..g
+// The code of an operation. The loops over pairs are generic in it, so each operation has loops of its own, and none asks for each pair which
+// one it is.
+pub trait Combine {
+    ghost op: { Operation };
+
+    // The word of a left zone from which the limits stand that must have a time in common with a right zone's starts: those of its starts for a
+    // meet, of its ends for a composition.
+    fn side() -> usize
+        ensures { result ≡ side op };
+
+    // What the operation makes of the zones at `left` and at `right`. They are read anew for each pair, so that no word of them is kept over
+    // a put.
+    fn combined(words: &[i32], left: usize, right: usize) -> Option<Zone>
+        requires { (left + zone_words ≤ length words.now) × (right + zone_words ≤ length words.now) × (Proper 0 1_000_000 (zone_at words.now left)) × (Proper 0 1_000_000 (zone_at words.now right)) }
+        ensures { CombinedAs op (zone_at words.now left) (zone_at words.now right) result };
+
+    // The list before a put of what the operation makes of a pair: with one pair more, if it is composed.
+    fn count_pair(g: Growing) -> Growing
+        requires { g.pairs < most_pairs }
+        ensures { result ≡ counting op g };
+}
+
+pub struct Meet;
+
+pub struct Compose;
+
+impl Combine for Meet {
+    ghost op = { Operation.Meet };
+
+    fn side() -> usize {
+        START
+    }
+
+    fn combined(words: &[i32], left: usize, right: usize) -> Option<Zone> {
+        let z = words::read_zone(words, left);
+        let w = words::read_zone(words, right);
+        z.meet(w)
+    }
+
+    fn count_pair(g: Growing) -> Growing {
+        g
+    }
+}
+
+impl Combine for Compose {
+    ghost op = { Operation.Compose };
+
+    fn side() -> usize {
+        END
+    }
+
+    fn combined(words: &[i32], left: usize, right: usize) -> Option<Zone> {
+        if !touching::touches(words, left, right) {
+            return None;
+        }
+        let z = words::read_zone(words, left);
+        let w = words::read_zone(words, right);
+        compose_touching(z, w)
+    }
+
+    fn count_pair(g: Growing) -> Growing {
+        Growing {
+            pairs: g.pairs + 1,
+            ..g
+        }
     }
 }
 
@@ -44,11 +101,8 @@ fn compose_touching(z: Zone, w: Zone) -> Option<Zone>
     z.compose(w)
 }
 
-// Puts the composition of the zone at `left` with each of the m zones from `right` on that it touches. The left zone is read anew for
-// each, so that no word of it is kept over a put.
-//
-// The two operations have a loop each: products of lists in one loop with a `match` on the operation took 20 to 70 in a hundred longer.
-fn each_composition(
+// Puts the meet or the composition of the zone at `left` with each of the m zones from `right` on; an empty one is passed over.
+pub fn each_right<C: Combine>(
     words: &mut [i32],
     left: usize,
     right: usize,
@@ -57,70 +111,17 @@ fn each_composition(
     g: Growing,
 ) -> Result<Growing, Overflow>
     requires { Pairing words.old left right m target g }
-    ensures grown { PairsAs Operation.Compose (beside (zone_at words.old left) (list_at words.old right m)) g words.old target words.new result }
+    ensures grown { PairsAs C.op (beside (zone_at words.old left) (list_at words.old right m)) g words.old target words.new result }
     ensures kept { Kept target slot_words words.old words.new }
 {
     let mut grown = g;
     for j in 0..m {
-        let at = right + j * ZONE_WORDS;
-        if !touching::touches(words, left, at) {
-            continue;
-        }
-        let z = words::read_zone(words, left);
-        let w = words::read_zone(words, at);
-        let Some(v) = compose_touching(z, w) else {
-            continue; // never: the two have a time in common
-        };
-        let mut out = [0i32; ZONE_WORDS];
-        words::write_zone(&mut out, 0, v);
-        grown = growing::grow_words(words, target, count_pair(grown), &out)?;
-    }
-    Ok(grown)
-}
-
-// Puts the meet of the zone at `left` with each of the m zones from `right` on; an empty one is passed over.
-fn each_meet(
-    words: &mut [i32],
-    left: usize,
-    right: usize,
-    m: usize,
-    target: usize,
-    g: Growing,
-) -> Result<Growing, Overflow>
-    requires { Pairing words.old left right m target g }
-    ensures grown { PairsAs Operation.Meet (beside (zone_at words.old left) (list_at words.old right m)) g words.old target words.new result }
-    ensures kept { Kept target slot_words words.old words.new }
-{
-    let mut grown = g;
-    for j in 0..m {
-        let z = words::read_zone(words, left);
-        let w = words::read_zone(words, right + j * ZONE_WORDS);
-        let Some(v) = z.meet(w) else {
+        let Some(v) = C::combined(words, left, right + j * ZONE_WORDS) else {
             continue;
         };
         let mut out = [0i32; ZONE_WORDS];
         words::write_zone(&mut out, 0, v);
-        grown = growing::grow_words(words, target, grown, &out)?;
+        grown = growing::grow_words(words, target, C::count_pair(grown), &out)?;
     }
     Ok(grown)
-}
-
-// Puts the meet or the composition of the zone at `left` with each of the m zones from `right` on.
-pub fn each_right(
-    words: &mut [i32],
-    op: Operation,
-    left: usize,
-    right: usize,
-    m: usize,
-    target: usize,
-    g: Growing,
-) -> Result<Growing, Overflow>
-    requires { Pairing words.old left right m target g }
-    ensures grown { PairsAs op (beside (zone_at words.old left) (list_at words.old right m)) g words.old target words.new result }
-    ensures kept { Kept target slot_words words.old words.new }
-{
-    match op {
-        Operation::Meet => each_meet(words, left, right, m, target, g),
-        Operation::Compose => each_composition(words, left, right, m, target, g),
-    }
 }

@@ -1,19 +1,20 @@
 -- Blocks of right zones: what the hull of one says of its zones, and a turn of the loop over blocks.
 use Rattle.std.specs.Prelude.{None}
-use mathlib.Core.Path.{◌≡◌, sym, ap, subst, ◌∙◌}
+use mathlib.Core.Path.{◌≡◌, refl, sym, ap, subst, ◌∙◌}
 use mathlib.Core.Bool.{Bool, true, false}
 use mathlib.Core.Logic.{◌↔◌}
 use mathlib.Core.List.Memᴰ
 use mathlib.Core.List.{List, ◌++◌, map, map-append, Memᴰ}
-use Prim.Native.Nat.{ℕ, ◌+◌, ◌-◌, ◌*◌, ◌<◌, min}
+use Prim.Native.Nat.{ℕ, ◌+◌, ◌-◌, ◌*◌, ◌≤◌, ◌<◌, min}
 use native.Mathlib.Omega.{arith}
 use lib.Dec.{T}
 use lib.IntN.{ℤ}
-use lib.ListN.{length-map}
+use lib.ListN.{length, length-map}
 use Rattle.limit.specs.declared.Limit.{Limit}
-use Rattle.limit.specs.Limit.{decode}
+use Rattle.limit.specs.Limit.{most_sum, decode, Small}
 use Rattle.zone.specs.declared.Zone.{Zone}
 use Rattle.zone.specs.Zone.{Proper}
+use Rattle.zone.proofs.Laws.{ranged}
 use Rattle.words.specs.Words.{word, zone_at}
 use Rattle.touching.specs.Sharing.{Share}
 use Rattle.touching.proofs.Sharing.{share_more, Abut, compose_apart, meet_apart, touches_share}
@@ -28,6 +29,7 @@ use Rattle.pairs.specs.declared.Operation.{Operation}
 use Rattle.pairs.specs.declared.Operation.TheVariants.{Meet, Compose}
 use Rattle.pairs.specs.Pairs.{apply, beside, Composed}
 use Rattle.pairs.specs.Row.{applied, Pairing}
+use Rattle.pairs.specs.Combined.{side}
 use Rattle.products.specs.Steps.{ReachesAs}
 use Rattle.pairs.proofs.Zones.{still_zones, read_one}
 use Rattle.products.proofs.Hulls.{block_split, zones_block}
@@ -54,6 +56,30 @@ missed Compose {z} p s ns n w q u =
 pub reaches_by : (op : Operation) {z : Zone} → Proper 0 1_000_000 z → (m : ℕ) → 16 < m → (s ns : ℤ) (r : Bool) → T r ↔ Share (upper op z) (nupper op z) (decode s) (decode ns) → ReachesAs op z m s ns r
 reaches_by op p m h s ns true f = tt
 reaches_by op p m h s ns false f = (h, missed op p s ns (λ k. f.1 k))
+
+side_within : (op : Operation) → side op ≤ 2
+side_within Meet = omega arith
+side_within Compose = omega arith
+
+-- they stand from one word of z on
+module _ (op : Operation) (ws : List ℤ) (left : ℕ) where
+  sides : (op : Operation) → (decode (word ws (left + side op)) ≡ upper op (zone_at ws left)) × (decode (word ws (left + side op + 1)) ≡ nupper op (zone_at ws left))
+  unfolding zone_at
+  sides Meet = let e : left + 0 ≡ left = omega arith in rw e (refl, refl)
+  sides Compose = let e : left + 2 + 1 ≡ left + 3 = omega arith in (refl, ap (λ (i : ℕ). decode (word ws i)) e)
+
+  small : (op : Operation) → Proper 0 1_000_000 (zone_at ws left) → Small 1_000_000 (upper op (zone_at ws left)) × Small 1_000_000 (nupper op (zone_at ws left))
+  small Meet p = let r = ranged p in (r.start, r.nstart)
+  small Compose p = let r = ranged p in (r.end, r.nend)
+
+  pub side_ready : left + 6 ≤ length ws → Proper 0 1_000_000 (zone_at ws left) → (left + side op + 2 ≤ length ws) × Small most_sum (decode (word ws (left + side op))) × Small most_sum (decode (word ws (left + side op + 1)))
+  side_ready h p =
+      let m = small op p in
+      let e = sides op in
+      (omega (arith, h, side_within op), rw (e.0) (omega (arith, m.0)), rw (e.1) (omega (arith, m.1)))
+
+  pub side_shares : (s ns : ℤ) (r : Bool) → T r ↔ Share (decode (word ws (left + side op))) (decode (word ws (left + side op + 1))) (decode s) (decode ns) → T r ↔ Share (upper op (zone_at ws left)) (nupper op (zone_at ws left)) (decode s) (decode ns)
+  side_shares s ns r f = let e = sides op in rw (e.0, e.1) at f
 
 -- ---- a turn of the loop over blocks
 

@@ -20,28 +20,24 @@ ghost use Rattle.products.specs.Steps.{ReachesAs};
 use growing::Growing;
 use hulls::{BLOCK, HULL_WORDS};
 use list::Overflow;
-use pairs::Operation;
-use words::{END, START, ZONE_WORDS};
+use pairs::Combine;
+use words::ZONE_WORDS;
 
 // Whether the zone at `left` may have something in common with zones of block b of m zones: by its starts for a meet, by its ends for a
 // composition. It may where there is one block, which has no hull and is gone through as quickly. Where it may, nothing is said.
-fn reaches(words: &[i32], op: Operation, left: usize, m: usize, hulls: &[i32], b: usize) -> bool
+fn reaches<C: Combine>(words: &[i32], left: usize, m: usize, hulls: &[i32], b: usize) -> bool
     requires { (left + zone_words ≤ length words.now) × (Proper 0 1_000_000 (zone_at words.now left)) × (b * 2 + 1 < length hulls.now) }
-    ensures { ReachesAs op (zone_at words.now left) m (word hulls.now (b * 2)) (word hulls.now (b * 2 + 1)) result }
+    ensures { ReachesAs C.op (zone_at words.now left) m (word hulls.now (b * 2)) (word hulls.now (b * 2 + 1)) result }
 {
     if m <= BLOCK {
         return true;
     }
-    match op {
-        Operation::Meet => touching::share(words, left + START, hulls, b * 2),
-        Operation::Compose => touching::share(words, left + END, hulls, b * 2),
-    }
+    touching::share(words, left + C::side(), hulls, b * 2)
 }
 
 // Puts the meet or the composition of the zone at `left` with each zone of a list of m, block by block.
-fn each_block(
+fn each_block<C: Combine>(
     words: &mut [i32],
-    op: Operation,
     left: usize,
     right: usize,
     m: usize,
@@ -50,25 +46,24 @@ fn each_block(
     g: Growing,
 ) -> Result<Growing, Overflow>
     requires { (Pairing words.old left right m target g) × (Hulls hulls.now words.old right m) × (length hulls.now ≡ hull_words) × (m ≤ capacity) }
-    ensures grown { PairsAs op (beside (zone_at words.old left) (list_at words.old right m)) g words.old target words.new result }
+    ensures grown { PairsAs C.op (beside (zone_at words.old left) (list_at words.old right m)) g words.old target words.new result }
     ensures kept { Kept target slot_words words.old words.new }
 {
     let mut grown = g;
     for b in 0..m.div_ceil(BLOCK) {
-        if !reaches(words, op, left, m, hulls, b) {
+        if !reaches::<C>(words, left, m, hulls, b) {
             continue;
         }
         let at = right + b * BLOCK * ZONE_WORDS;
         let k = hulls::block_size(m - b * BLOCK);
-        grown = pairs::each_right(words, op, left, at, k, target, grown)?;
+        grown = pairs::each_right::<C>(words, left, at, k, target, grown)?;
     }
     Ok(grown)
 }
 
 // Puts the meet or the composition of each of n left zones with each of m right zones, in that order, and counts the pairs composed.
-pub fn each_pair(
+pub fn each_pair<C: Combine>(
     words: &mut [i32],
-    op: Operation,
     left: usize,
     n: usize,
     right: usize,
@@ -77,7 +72,7 @@ pub fn each_pair(
     g: Growing,
 ) -> Result<Growing, Overflow>
     requires { (Operands words.old left n right m target g.count) × (Stands words.old target g) × (g.pairs ≡ 0) }
-    ensures grown { GrowsAs (pairs op (list_at words.old left n) (list_at words.old right m)) (Counted (Composed op) (crossed (list_at words.old left n) (list_at words.old right m))) g words.old target words.new result }
+    ensures grown { GrowsAs (pairs C.op (list_at words.old left n) (list_at words.old right m)) (Counted (Composed C.op) (crossed (list_at words.old left n) (list_at words.old right m))) g words.old target words.new result }
     ensures kept { Kept target slot_words words.old words.new }
 {
     let mut hulls = [0i32; HULL_WORDS];
@@ -85,7 +80,7 @@ pub fn each_pair(
     let mut grown = g;
     for i in 0..n {
         let at = left + i * ZONE_WORDS;
-        grown = each_block(words, op, at, right, m, &hulls, target, grown)?;
+        grown = each_block::<C>(words, at, right, m, &hulls, target, grown)?;
     }
     Ok(grown)
 }

@@ -14,7 +14,7 @@ ghost use Rattle.star.specs.Star.{Star};
 ghost use Rattle.star.specs.Steps.{RoundAs, EndsAs};
 
 use list::Overflow;
-use pairs::Operation;
+use pairs::Compose;
 use purse::{Listed, Stopped};
 use std::mem;
 use zone::Zone;
@@ -49,7 +49,7 @@ fn one_round(
 {
     list::copy_zones(words, list, copy, n);
     let old = growing::standing(n);
-    let g = products::each_pair(words, Operation::Compose, list, n, inner, m, copy, old)?;
+    let g = products::each_pair::<Compose>(words, list, n, inner, m, copy, old)?;
     let changed = if g.changed == 0 { None } else { Some(g.count) };
     Ok(Round {
         changed,

@@ -5,4 +5,4 @@ use Rattle.pairs.specs.Pairs.{crossed}
 use Rattle.products.proofs.each_pair.Given as goal
 
 abbrev pub invariant-loop-i : goal.invariant-loop-i
-invariant-loop-i l = Combining l.op (crossed (list_at l.initial.words (l.left + l.i * 6) (l.n - l.i)) (list_at l.initial.words l.right l.m)) (crossed (list_at l.initial.words l.left l.n) (list_at l.initial.words l.right l.m)) l.initial.grown l.target l.initial.words l.words l.grown
+invariant-loop-i g l = Combining g.C.Combine.op (crossed (list_at l.initial.words (l.left + l.i * 6) (l.n - l.i)) (list_at l.initial.words l.right l.m)) (crossed (list_at l.initial.words l.left l.n) (list_at l.initial.words l.right l.m)) l.initial.grown l.target l.initial.words l.words l.grown
