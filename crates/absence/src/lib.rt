@@ -21,7 +21,7 @@ use growing::Growing;
 use list::{Overflow, SLOT_WORDS};
 use std::mem;
 use words::ZONE_WORDS;
-use zone::Zone;
+use zone::{Ticks, Zone};
 
 // Puts what is left of a zone, if anything is. It shares no stretch with a listed zone, so that it goes last without a look.
 fn put_left(
@@ -125,19 +125,14 @@ fn without_each(words: &mut [i32], base: usize, n: usize) -> Result<usize, Overf
     Ok(count)
 }
 
-// `~`: the stretches of ticks from..to that lie in none of the n zones in the slot at `base`, listed there. The two slots behind it are free
+// `~`: the stretches of the ticks that lie in none of the n zones in the slot at `base`, listed there. The two slots behind it are free
 // afterwards, and all three where a list would have 129 zones.
-pub fn absent(
-    words: &mut [i32],
-    base: usize,
-    n: usize,
-    from: u32,
-    to: u32,
-) -> Result<usize, Overflow>
-    requires { (Source words.old base n) × (base + 3 * slot_words ≤ length words.old) × (from ≤ to) × (to ≤ 1_000_000) }
-    ensures built { BuiltAs (absent from to (list_at words.old base n)) words.new base result }
+pub fn absent(words: &mut [i32], base: usize, n: usize, ticks: Ticks) -> Result<usize, Overflow>
+    requires { (Source words.old base n) × (base + 3 * slot_words ≤ length words.old) }
+    ensures built { BuiltAs (absent ticks.from ticks.to (list_at words.old base n)) words.new base result }
     ensures kept { Kept base (3 * slot_words) words.old words.new }
 {
-    words::write_zone(words, base + SLOT_WORDS, Zone::everything(from, to));
+    let everything = Zone::everything(ticks.from, ticks.to);
+    words::write_zone(words, base + SLOT_WORDS, everything);
     without_each(words, base, n)
 }

@@ -5,6 +5,7 @@ use Rattle.expression.specs.declared.Join.{Join}
 use Rattle.expression.specs.declared.Join.TheVariants.{Union, Intersection, Concatenation}
 use Rattle.expression.specs.declared.Unary.TheVariants.{Absence}
 use Rattle.expression.specs.Expression.{Expression, epsilon, join, unary}
+pub use Rattle.expression.specs.Grammar.{symbol}
 use Rattle.tokens.specs.Tokens.{Got, no, yes, branch, bind, starts, rest, expect, postfix, lettered}
 
 -- by what is read, if anything is
@@ -16,12 +17,6 @@ perhaps (yes x r) k g = k x r
 unfoldable pub postfixes : ℕ → Expression → List ℕ → Got Expression
 postfixes zero e s = no
 postfixes (suc n) e s = perhaps (postfix s) (λ u r. postfixes n (unary u e) r) (yes e s)
-
--- the byte between the operands of a join
-abbrev pub symbol : Join → ℕ
-symbol Union = 124
-symbol Intersection = 38
-symbol Concatenation = 46
 
 -- the grammar's levels, the three that join as one
 pub data Rank : Type 0 where

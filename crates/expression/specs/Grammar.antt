@@ -2,6 +2,7 @@
 -- Bytes: 33 `!`, 38 `&`, 40 `(`, 41 `)`, 42 `*`, 43 `+`, 44 `,`, 45 `-`, 46 `.`, 48 `0`, 60 `<`, 95 `_`, 97 `a`, 123 `{`, 124 `|`, 125 `}`, 126 `~`.
 use Rattle.std.specs.Prelude.{Some, None, ℕ, ◌+◌, ◌*◌, ◌<◌, List, [], ◌∷◌, ◌++◌}
 use Rattle.expression.specs.declared.Range.{Range}
+use Rattle.expression.specs.declared.Join.{Join}
 use Rattle.expression.specs.declared.End.{End}
 use Rattle.expression.specs.declared.End.TheVariants.{Closed, Open}
 use Rattle.expression.specs.Expression.{Expression, epsilon, High, Low, Rise, Fall, literal, Union, Intersection, Concatenation, join, Star, Band, Absence, unary}
@@ -20,6 +21,12 @@ pub data Bound : List ℕ → End → Type 0 where
 pub data Limits : List ℕ → Range → Type 0 where
   from : {s : List ℕ} {lo : End} → Bound s lo → Limits (s ++ (44 ∷ [])) (record { lo = lo; hi = None })
   between : {s u : List ℕ} {lo hi : End} → Bound s lo → Bound u hi → Limits (s ++ (44 ∷ u)) (record { lo = lo; hi = Some hi })
+
+-- the byte between the operands of a join
+abbrev pub symbol : Join → ℕ
+symbol Union = 124
+symbol Intersection = 38
+symbol Concatenation = 46
 
 pub data Level : Type 0 where
   alternative : Level

@@ -9,6 +9,7 @@
 #![tactic(auto)]
 
 ghost use Rattle.std.specs.Prelude.{◌≡◌, true, ◌↔◌, ◌+◌, ◌*◌, ◌≤◌, length, get_or};
+ghost use Rattle.expression.specs.Grammar.{symbol};
 ghost use Rattle.expression.specs.Refusal.{figure, Opened, WrongUpper, Wrong};
 ghost use Rattle.expression.specs.Stored.{band_node, decoded, node_at, Placed};
 
@@ -57,6 +58,19 @@ pub enum Join {
     Union,
     Intersection,
     Concatenation,
+}
+
+impl Join {
+    // The byte between its operands.
+    pub fn symbol(self) -> u8
+        ensures { result ≡ symbol self }
+    {
+        match self {
+            Join::Union => b'|',
+            Join::Intersection => b'&',
+            Join::Concatenation => b'.',
+        }
+    }
 }
 
 // The operators with one operand: `*`, `{lo,hi}` and `~`.

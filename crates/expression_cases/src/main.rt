@@ -5,7 +5,7 @@
 // these texts for its contract, for this program alone.
 #![tactic(auto)]
 
-use expression::{End, Join, Node, Range, Sign, Unary};
+use expression::{End, Node, Range, Sign, Unary};
 use std::io;
 
 // As much of standard input is read.
@@ -21,14 +21,6 @@ fn sign_text(sign: Sign) -> &'static str {
         Sign::Low => "!",
         Sign::Rise => "+",
         Sign::Fall => "-",
-    }
-}
-
-fn join_text(join: Join) -> &'static str {
-    match join {
-        Join::Union => "|",
-        Join::Intersection => "&",
-        Join::Concatenation => ".",
     }
 }
 
@@ -66,7 +58,7 @@ fn print_tree(rt: &impl Print, nodes: &[u32], n: u32, depth: u32) -> io::Result<
         Node::Epsilon => print!(rt; "_"),
         Node::Literal(sign, channel) => print!(rt; "{}{}", sign_text(sign), letter(channel)),
         Node::Infix(join, left, right) => {
-            print!(rt; "{}", join_text(join))?;
+            print!(rt; "{}", char::from(join.symbol()))?;
             print_tree(rt, nodes, left, depth - 1)?;
             print_tree(rt, nodes, right, depth - 1)
         }

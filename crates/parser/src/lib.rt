@@ -12,7 +12,7 @@
 
 ghost use Rattle.std.specs.Prelude.{◌≡◌, ◌*◌, ◌≤◌, min, length};
 ghost use Rattle.parser.specs.Parsing.{number_of, ParsedAs};
-ghost use Rattle.descent.specs.Descent.{symbol as symbol_of, joining, factoring, repeating, single, below};
+ghost use Rattle.descent.specs.Descent.{joining, factoring, repeating, single, below};
 ghost use Rattle.leaves.specs.Reading.{is_wrong_unary, Ready, ReadAs};
 ghost use Rattle.parser.specs.Readers.{ClosedAs, verdict};
 
@@ -44,24 +44,13 @@ fn wrong_operator(op: Unary) -> bool
     matches!(op, Unary::Band(range) if expression::is_wrong(range))
 }
 
-// The byte between the operands of a join.
-fn symbol(join: Join) -> u8
-    ensures { result ≡ symbol_of join }
-{
-    match join {
-        Join::Union => b'|',
-        Join::Intersection => b'&',
-        Join::Concatenation => b'.',
-    }
-}
-
 // The level of a join: its operands, one or more, grouped to the left.
 #[cycle(grammar)]
 fn chain(text: &[u8], at: usize, nodes: &mut [u32], used: u32, join: Join) -> Option<Tree>
     requires { Ready text.now at nodes.old used }
     ensures { ReadAs (joining join) text.now at used nodes.old nodes.new result }
 {
-    let byte = symbol(join);
+    let byte = join.symbol();
     let mut tree = operand(text, at, nodes, used, join)?;
     while tokens::byte_is(text, tree.at, byte) {
         let right = operand(text, tree.at + 1, nodes, tree.used, join)?;

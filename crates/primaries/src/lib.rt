@@ -20,9 +20,8 @@ use expression::Sign;
 use purse::{Listed, Stopped};
 use recording::Recording;
 use runs::{Cursor, Level, Run};
-use values::Ticks;
 use words::ZONE_WORDS;
-use zone::Zone;
+use zone::{Ticks, Zone};
 
 // The ticks from..to of a recording that was read: where a drill is evaluated.
 #[derive(Clone, Copy)]

@@ -3,7 +3,7 @@
 // specs/Star.antt says what the rounds come to, over plain lists of zones.
 #![tactic(auto)]
 
-ghost use Rattle.std.specs.Prelude.{◌≡◌, ◌⊎◌, [], ◌∷◌, ◌≤◌, Some};
+ghost use Rattle.std.specs.Prelude.{◌≡◌, ◌⊎◌, [], ◌∷◌, Some};
 ghost use Rattle.zone.specs.Zone.{diagonal};
 ghost use Rattle.list.specs.Insert.{insert_each};
 ghost use Rattle.list.specs.Slots.{slot_words, list_at, Free, Source, Kept, KeptBoth, Disjoint};
@@ -17,7 +17,7 @@ use list::Overflow;
 use pairs::Compose;
 use purse::{Listed, Stopped};
 use std::mem;
-use zone::Zone;
+use zone::{Ticks, Zone};
 
 // A round: how many zones the new list has, or `None` where nothing changed; and how many pairs it composed.
 #[derive(Clone, Copy)]
@@ -95,26 +95,25 @@ fn all_rounds(
     }
 }
 
-// The list of n zones at `at`, brought to `target`, with the diagonal of ticks from..to put into it.
+// The list of n zones at `at`, brought to `target`, with the diagonal of the ticks put into it.
 fn close(
     words: &mut [i32],
     at: usize,
     n: usize,
     target: usize,
-    from: u32,
-    to: u32,
+    ticks: Ticks,
 ) -> Result<usize, Overflow>
-    requires { (Source words.old at n) × (Free words.old target) × ((at ≡ target) ⊎ (Disjoint at target)) × (from ≤ to) × (to ≤ 1_000_000) }
-    ensures built { BuiltAs (insert_each (Some (diagonal from to) ∷ []) (list_at words.old at n)) words.new target result }
+    requires { (Source words.old at n) × (Free words.old target) × ((at ≡ target) ⊎ (Disjoint at target)) }
+    ensures built { BuiltAs (insert_each (Some (diagonal ticks.from ticks.to) ∷ []) (list_at words.old at n)) words.new target result }
     ensures kept { Kept target slot_words words.old words.new }
 {
     list::bring(words, at, n, target);
-    let diagonal = Zone::diagonal(from, to);
+    let diagonal = Zone::diagonal(ticks.from, ticks.to);
     let g = growing::grow(words, target, growing::standing(n), diagonal)?;
     Ok(g.count)
 }
 
-// `*`: the rounds, and then the diagonal of ticks from..to, into the list at `target`. It may make as many rounds as it is told. The slot
+// `*`: the rounds, and then the diagonal of the ticks, into the list at `target`. It may make as many rounds as it is told. The slot
 // `scratch` is free afterwards, and `target` too where there is no list.
 pub fn star(
     words: &mut [i32],
@@ -122,19 +121,18 @@ pub fn star(
     m: usize,
     scratch: usize,
     target: usize,
-    from: u32,
-    to: u32,
+    ticks: Ticks,
     told: u64,
 ) -> Result<Listed, Stopped>
-    requires { (Workspace words.old inner m target scratch) × (from ≤ to) × (to ≤ 1_000_000) }
-    ensures closed { EvaluatedAs (Star (list_at words.old inner m) (diagonal from to)) told words.new target result }
+    requires { Workspace words.old inner m target scratch }
+    ensures closed { EvaluatedAs (Star (list_at words.old inner m) (diagonal ticks.from ticks.to)) told words.new target result }
     ensures kept { KeptBoth target scratch words.old words.new }
     ensures free { Free words.new target × Free words.new scratch }
 {
     list::copy_zones(words, inner, target, m);
     let last = all_rounds(words, inner, m, target, scratch, told)?;
     let left = last.left;
-    let Ok(count) = close(words, last.at, last.count, target, from, to) else {
+    let Ok(count) = close(words, last.at, last.count, target, ticks) else {
         return Err(Stopped::Overflow { left }); // the diagonal would be the 129th
     };
     Ok(Listed { count, left })

@@ -26,16 +26,7 @@ use expression::{End, Join, Range, Unary};
 use limit::Limit;
 use list::{Overflow, SLOT_WORDS};
 use purse::{Listed, Stopped};
-use zone::Zone;
-
-// Ticks from..to that the machine's numbers have room for, as those of every recording.
-#[derive(Clone, Copy)]
-pub struct Ticks {
-    pub from: u32,
-    pub to: u32,
-    pub ghost forward: { from ≤ to },
-    pub ghost small: { to ≤ 1_000_000 },
-}
+use zone::{Ticks, Zone};
 
 // The words of two slots: how far behind its operands' slots a list is built.
 const TWO_SLOTS: usize = 2 * SLOT_WORDS;
@@ -178,7 +169,7 @@ fn star(work: &mut [i32], base: usize, n: usize, ticks: Ticks, told: u64) -> Res
 {
     let closed = base + SLOT_WORDS;
     let scratch = base + TWO_SLOTS;
-    let starred = star::star(work, base, n, scratch, closed, ticks.from, ticks.to, told);
+    let starred = star::star(work, base, n, scratch, closed, ticks, told);
     brought(work, starred, closed, base)
 }
 
@@ -194,7 +185,7 @@ fn absent(
     ensures value { EvaluatedAs (λ v. v ≡ ended (absent ticks.from ticks.to (list_at work.old base n))) left work.new base result }
     ensures kept { Kept base (3 * slot_words) work.old work.new }
 {
-    unspent(absence::absent(work, base, n, ticks.from, ticks.to), left)
+    unspent(absence::absent(work, base, n, ticks), left)
 }
 
 // The operators with one operand, on its list of n zones in the slot at `base`, with the rounds that it has left. The other words of the

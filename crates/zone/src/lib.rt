@@ -13,6 +13,16 @@ ghost use Rattle.zone.specs.Zone.{tighter, tighten, both, meet, across, compose,
 
 use limit::Limit;
 
+// Ticks from..to, the first no later than the last, that the machine's numbers have room for. The functions that make zones take two numbers:
+// they ask for no order, which this type would.
+#[derive(Clone, Copy)]
+pub struct Ticks {
+    pub from: u32,
+    pub to: u32,
+    pub ghost forward: { from ≤ to },
+    pub ghost small: { to ≤ 1_000_000 },
+}
+
 // The six limits of a zone; the n stands for "negated": a lower limit is an upper one on the negated quantity.
 #[derive(Clone, Copy)]
 pub struct Zone {

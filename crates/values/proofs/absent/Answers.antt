@@ -5,7 +5,7 @@ use Rattle.values.proofs.absent.Goals as goal
 
 pub absent-requires : goal.absent-requires
 absent-requires c =
-    (record { few = c.requires.few; room = omega (arith, c.requires.room); sound = c.requires.sound }, omega (arith, c.requires.room), c.args.ticks.forward, c.args.ticks.small)
+    (record { few = c.requires.few; room = omega (arith, c.requires.room); sound = c.requires.sound }, omega (arith, c.requires.room))
 
 pub returns : goal.returns
 returns c = record {

@@ -5,18 +5,14 @@ use Rattle.values.proofs.Standings.{value_few, value_brought, kept_region}
 use Rattle.values.proofs.star.Goals as goal
 
 pub star-starred-requires : goal.star-starred-requires
-star-starred-requires c = (
-  record {
-    list = record { few = c.requires.few; room = omega (arith, c.requires.room); sound = c.requires.sound };
-    target_free = omega (arith, c.requires.room);
-    scratch_free = omega (arith, c.requires.room);
-    target_apart = inl (omega arith);
-    scratch_apart = inl (omega arith);
-    both_apart = inl (omega arith);
-  },
-  c.args.ticks.forward,
-  c.args.ticks.small,
-)
+star-starred-requires c = record {
+  list = record { few = c.requires.few; room = omega (arith, c.requires.room); sound = c.requires.sound };
+  target_free = omega (arith, c.requires.room);
+  scratch_free = omega (arith, c.requires.room);
+  target_apart = inl (omega arith);
+  scratch_apart = inl (omega arith);
+  both_apart = inl (omega arith);
+}
 
 pub brought-requires : goal.brought-requires
 brought-requires c =
