@@ -106,8 +106,8 @@ fn told(seen: Option<Seen>) -> Option<Ends>
     })
 }
 
-// The ends of the stretches from tick `start` that lie in the zones in front of the words, or `None` where there are none. The point at `start` composed with a zone is just
-// what starts there of the zone.
+// The ends of the stretches from tick `start` that lie in the zones in front of the words, or `None` where there are none. The point at `start`
+// composed with a zone is just what starts there of the zone.
 pub fn ends_of(words: &[i32], zones: usize, start: u32) -> Option<Ends>
     requires { Askable words.now zones start }
     ensures { EndsAs (Lies (list_at words.now 0 zones) (at_tick start)) result }

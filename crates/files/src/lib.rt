@@ -16,14 +16,16 @@ use std::rt::Files;
 pub struct Loaded<const N: usize> {
     pub buffer: [u8; N],
     pub filled: usize,
-    ghost room: { length buffer ≡ N },
-    ghost within: { IsPrefixLen filled buffer },
+    pub ghost room: { length buffer ≡ N },
+    pub ghost within: { IsPrefixLen filled buffer },
 }
 
 impl<const N: usize> Loaded<N> {
     // Those of the file at a path. One that can't be opened counts as empty. No contract can say what a file holds; that the
     // bytes counted stand at the start of the buffer is said by the type.
-    pub fn from_path(rt: &impl Files, path: &str) -> Loaded<N> {
+    pub fn from_path(rt: &impl Files, path: &str) -> Loaded<N>
+        ensures { IsPrefixLen result.filled result.buffer }
+    {
         let mut buffer = [0u8; N];
         let filled = match fs::open(rt, path) {
             Ok(mut file) => read_full(&mut file, &mut buffer),
