@@ -76,7 +76,8 @@ fn under(v: i32) -> u32
     v.min(0).unsigned_abs()
 }
 
-// The latest end of stretches whose greatest limit on the end is this, and the earliest of those whose greatest limit on the negated end is.
+// The latest end of stretches whose greatest limit on the end is this, and the earliest of those whose greatest limit on the negated end is. They
+// differ in the sign of the number: one function for both would take `above` or `under` as a parameter.
 fn latest(l: Limit) -> Extreme
     ensures { result ≡ latest l }
 {
