@@ -15,7 +15,8 @@ use limit::Limit;
 // The words of the ends.
 pub const END_WORDS: usize = 3;
 
-// The words of the latest and of the earliest end. They have nothing in common but the two cases, as the functions of `extremes` that make them.
+// The words of the latest and of the earliest end. They have nothing in common but the two cases: one function for both would take the limits
+// that it makes as parameters.
 fn latest_word(e: Extreme) -> i32
     requires { tick_of e ≤ most_ticks }
     ensures { result ≡ code (latest_limit e) }
@@ -41,9 +42,7 @@ fn write_three(words: &mut [i32], some: i32, latest: i32, earliest: i32)
     requires { end_words ≤ length words.old }
     ensures { words.new ≡ (some ∷ latest ∷ earliest ∷ []) ++ drop end_words words.old }
 {
-    words[0] = some;
-    words[1] = latest;
-    words[2] = earliest;
+    words[..END_WORDS].copy_from_slice(&[some, latest, earliest]);
 }
 
 // Writes the words of the ends to the front; all others stay as they were.

@@ -77,7 +77,7 @@ fn under(v: i32) -> u32
 }
 
 // The latest end of stretches whose greatest limit on the end is this, and the earliest of those whose greatest limit on the negated end is. They
-// have nothing in common but the two cases: one function for both would take how a number is read as a parameter.
+// differ in the sign of the number: one function for both would take `above` or `under` as a parameter.
 fn latest(l: Limit) -> Extreme
     ensures { result ≡ latest l }
 {

@@ -148,6 +148,9 @@ fn append(
     Ok(n + 1)
 }
 
+// Words, place and count are parameters and no fields of a list, here and in the crates above: one buffer is lent for all lists, so that a list
+// which held its `&mut` would have it alone, and two lists are read while a third is written.
+//
 // Puts the zone of six words w into the list of a slot: answers how many zones it has then, or `None` where the zone is turned
 // away. Where it would be the 129th, no zone gave way to it, and so no word has been written.
 pub fn insert_words(
