@@ -68,7 +68,8 @@ fn put_parts(
     Ok(grown)
 }
 
-// Puts the parts of each of the n zones at `source` outside the zone of six words `cut`, zone by zone.
+// Puts the parts of each of the n zones at `source` outside the zone of six words `cut`, zone by zone. A loop of its own, and no closure for that of
+// other operators: the contract says by name what is put for each zone.
 fn put_each(
     words: &mut [i32],
     source: usize,

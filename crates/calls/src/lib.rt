@@ -1,8 +1,8 @@
 // What a call comes to: which outcome it has, and what both buffers hold afterwards. `find_in` is the part of a call that comes after
 // the recording is read, up to the delivered list; it is told the rounds left.
 //
-// specs/Outcome.antt has the causes of a refusal, with specs/Outcome.antt of `outcome` for what each outcome returns and leaves and
-// specs/Buffers.antt of `delivery` for what the buffers hold; specs/Causes.antt which cause of a list is the first. specs/Within.antt has the
+// specs/Outcome.antt has the causes of a refusal, specs/Outcome.antt of the crate `outcome` what each outcome returns and leaves, and
+// specs/Buffers.antt of `delivery` what the buffers hold; specs/Causes.antt says which cause of a list is the first. specs/Within.antt has the
 // call that is told the rounds left.
 #![tactic(auto)]
 
@@ -16,7 +16,7 @@ ghost use Rattle.calls.specs.Within.{WithinAs};
 use outcome::{Outcome, Refusal};
 use recording::Recording;
 
-// The refusal of a call by what is wrong with its recording.
+// The refusal of a call by what is wrong with its recording. No `From`: both types are of crates below, which know nothing of one another.
 pub fn recording_refusal(fault: recording::Fault) -> Refusal
     ensures { result ≡ recording_refusal fault }
 {

@@ -37,7 +37,7 @@ fn earliest_word(e: Extreme) -> i32
     }
 }
 
-// Some or none is a number here, 1 or 0, as the answer is in words.
+// Some or none is a number here, 1 or 0: `words_of`, which `write_ends` promises, has it so.
 fn write_three(words: &mut [i32], some: i32, latest: i32, earliest: i32)
     requires { end_words ≤ length words.old }
     ensures { words.new ≡ (some ∷ latest ∷ earliest ∷ []) ++ drop end_words words.old }

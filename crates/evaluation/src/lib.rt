@@ -38,6 +38,7 @@ pub fn evaluate(
     match expression::node_at(nodes, node) {
         Node::Epsilon => primaries::point(work, base, window.ticks(), told),
         Node::Literal(sign, channel) => {
+            // A channel is below the recording's count, so that a byte holds it.
             primaries::literal(window, channel as u8, sign, work, base, told)
         }
         Node::Applied(op, operand) => {

@@ -4,8 +4,8 @@
 // specs/Expression.antt has the expressions, specs/Grammar.antt the texts that document 01 takes for them, specs/Refusal.antt
 // the causes 4 to 8. Which text is which expression is found in `parser`. Nothing is known here of recordings.
 //
-// A tree's nodes are numbered, and stand in words that the caller lends: there is no heap, and `decoded` of specs/Stored.antt is
-// what four words stand for.
+// A tree's nodes are numbered, and stand in words that the caller lends: there is no heap. `node_at`, `store` and `parse` promise of these words what
+// specs/Stored.antt says, so that they are no array of `Node`.
 #![tactic(auto)]
 
 ghost use Rattle.std.specs.Prelude.{◌≡◌, true, ◌↔◌, ◌+◌, ◌*◌, ◌≤◌, length, get_or};
@@ -119,7 +119,7 @@ fn band_node(lo: End, hi: Option<End>, operand: u32) -> Node
     Node::Applied(Unary::Band(Range { lo, hi }), operand)
 }
 
-// The node that four words stand for.
+// The node that four words stand for. A kind is a number here: `decoded` says which.
 #[tactic(auto, unfolding(crate::specs::Stored::decoded))]
 fn node_of(op: u32, x: u32, y: u32, z: u32) -> Node
     ensures { result ≡ decoded op x y z }

@@ -17,7 +17,8 @@ use limit::Limit;
 use words::ZONE_WORDS;
 use zone::Zone;
 
-// The earliest or the latest end, in whole ticks: reached by some stretch, or only approached.
+// The earliest or the latest end, in whole ticks: reached by some stretch, or only approached. An `End` of `expression` has the same two cases; this
+// type is the crate's own, since nothing is known here of drills.
 #[derive(Clone, Copy)]
 pub enum Extreme {
     Reached(u32),

@@ -18,8 +18,7 @@ pub const WORK_WORDS: usize = delivery::WORK_WORDS;
 // More rounds than any drill begins: a call without a limit is told so many.
 const ALL_ROUNDS: u64 = 65_544_388_608;
 
-// The inputs, the two lent buffers and the rounds left are parameters of their own in every call, as C lends them (`zikpasho_within`); the steps
-// below take one of them or another.
+// The inputs, the two lent buffers and the rounds left are parameters of their own, as C lends them to the exported calls, which hand them on.
 
 // Lists every stretch of the recording that fits the drill, as zones in front of the answer buffer, or refuses. It may begin as many rounds as
 // are left, and leaves those that it does not finish.

@@ -24,7 +24,8 @@ pub struct Latest {
 }
 
 // A growing list: its zones, 1 where any put was placed, the pairs that were composed for it, and how late its zones start. The mark
-// is no bool, so that no field has a gap behind it: with one the struct is slower to copy.
+// is no bool, so that no field has a gap behind it: with one the struct is slower to copy. The place of its slot is no field: it is the same from put
+// to put.
 #[derive(Clone, Copy)]
 pub struct Growing {
     pub count: usize,
@@ -53,7 +54,8 @@ pub fn nothing() -> Growing
     }
 }
 
-// A list of so many zones that stands already. How late they start is not looked for: no zone is taken to start later.
+// A list of so many zones that stands already. How late they start is not looked for: no zone is taken to start later, so that the two bounds are
+// those of `nothing`, exchanged.
 pub fn standing(count: usize) -> Growing
     ensures begins { Begins count result }
     ensures late { Unsurpassed result.latest }
@@ -136,7 +138,8 @@ pub fn grow_words(
     after_put(g, answer, w)
 }
 
-// The same of a zone that lies inside no listed zone and around none: the list is not looked through.
+// The same of a zone that lies inside no listed zone and around none: the list is not looked through. It is a function and no parameter, since it asks
+// for more.
 pub fn grow_apart(
     words: &mut [i32],
     target: usize,

@@ -90,6 +90,8 @@ pub fn broken(word: i32) -> i32
 }
 
 impl Limit {
+    // Each of the next four is one value, of a case and a sign of its own: one function for all would take both as parameters.
+    //
     // At most n, reached.
     pub fn most(n: u32) -> Limit
         requires { n ≤ most_ticks }
@@ -126,6 +128,7 @@ impl Limit {
         Limit::Below(negative(n))
     }
 
+    // This and the next two are one call each, of the function on words of the same sense.
     pub fn plus(self, other: Limit) -> Limit
         requires { (Small most_sum self) × (Small most_sum other) }
         ensures { result ≡ self ⊕ other }

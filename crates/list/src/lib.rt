@@ -4,8 +4,9 @@
 // specs/ has a definition for each, over plain lists of zones; specs/Slots.antt says how a slot holds a list.
 //
 // A list is a place and a count in the one lent buffer, here and in the crates above, and their contracts ask for both (`Slot`, `Free`, `Source`,
-// `Operands`, `Stands`, `Pairing`). It is no struct that holds the buffer: an operator reads two lists of it and writes a third, so that a struct
-// would lend the buffer to one of them alone.
+// `Supply`, `Operands`, `OperandAt`, `Workspace`, `Stands`, `Pairing`, and the words of a slot from a place on). It is no struct that holds the
+// buffer: an operator reads two lists of it and writes a third, so that a struct would lend the buffer to one of them alone. Nor is a place with its
+// count a struct: a list that grows has its count in `Growing`, and the contracts would name two fields where they name two numbers.
 #![tactic(auto)]
 
 ghost use Rattle.std.specs.Prelude.{◌≡◌, ◌⊎◌, ◌+◌, ◌*◌, ◌≤◌, ◌<◌, length};

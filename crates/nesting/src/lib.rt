@@ -1,7 +1,8 @@
 // How one zone lies to another, of their words in lent buffers alone: the order of words is that of limits, so nothing is
 // decoded.
 //
-// specs/Nesting.antt says how two zones may lie; proofs/Nestings.antt has the laws that crates above cite.
+// specs/Nesting.antt says how two zones may lie; proofs/Nestings.antt has the laws that crates above cite. Each function asks that six words stand
+// from a place on, as those of `words` do.
 #![tactic(auto)]
 
 ghost use Rattle.std.specs.Prelude.{◌≡◌, ◌+◌, ◌≤◌, ◌<◌, length};

@@ -1,6 +1,6 @@
 // What a call of the finder comes to: a finished list of zones or one of the refusals. `Returned::from` gives the number, zones and rounds of an
 // outcome, and `front` gives back the words of the listed zones. Nothing is known here of recordings and drills: which outcome a call has is in
-// `finder`.
+// `calls`.
 //
 // specs/Outcome.antt has what each outcome returns and leaves, and the front of an answer.
 #![tactic(auto)]

@@ -59,7 +59,8 @@ fn chain(text: &[u8], at: usize, nodes: &mut [u32], used: u32, join: Join) -> Op
     Some(tree)
 }
 
-// An operand of a join, which is of the level below it.
+// An operand of a join, which is of the level below it. Which level that is, is asked of the join and of no closure: the readers call each other in a
+// cycle, and each is named there.
 #[cycle(grammar)]
 fn operand(text: &[u8], at: usize, nodes: &mut [u32], used: u32, join: Join) -> Option<Tree>
     requires { Ready text.now at nodes.old used }

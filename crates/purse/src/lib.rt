@@ -11,7 +11,8 @@ pub struct Listed {
     pub left: u64,
 }
 
-// Why there is none: one would have 129 zones, with the rounds left; or a round would be begun beyond those told.
+// Why there is none: one would have 129 zones, with the rounds left; or a round would be begun beyond those told. The `Overflow` of a list has no
+// rounds left, so that there is no `From`: it becomes this one where they are known.
 #[derive(Clone, Copy)]
 pub enum Stopped {
     Overflow { left: u64 },

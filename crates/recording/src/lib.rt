@@ -1,5 +1,5 @@
-// Switch recordings. `read` judges any bytes: they are turned back, by the table's number, or they are a recording of so many
-// ticks, channels and changes. Of a `Recording`, which was read, `begins` and `levels` tell where a change holds from, and what
+// Switch recordings. `read` judges any bytes: they are turned back, with what is wrong, or they are a `Recording` of so many
+// ticks, channels and changes. Of one that was read `begins` and `levels` tell where a change holds from, and what
 // it sets. The functions that `read` calls ask that record j is there, since they read bytes that are no recording yet.
 #![tactic(auto)]
 
@@ -75,7 +75,7 @@ fn tick(m: u32) -> u32
     (m + 5) / 10
 }
 
-// Record j starts with the mark. Both are compared as one number.
+// Record j starts with the mark. Both are compared as one number, by what reads all others: slices would have to be cut out first.
 #[tactic(auto, using(crate::proofs::Refusals::two_bytes), unfolding(crate::specs::Reading::has_mark, crate::specs::Reading::le16))]
 fn has_mark(bytes: &[u8], j: usize, mark: [u8; 2]) -> bool
     requires { 8 * j + 1 < length bytes.now }
@@ -190,7 +190,7 @@ impl<'a> Recording<'a> {
         tick(le32(self.bytes, 8 * j + 2))
     }
 
-    // The levels that change j sets.
+    // The levels that change j sets. That there is a change j is asked of the call: its number says nothing without the recording.
     pub fn levels(&self, j: usize) -> u32
         requires { j ≤ self.now.size.changes }
         ensures { (result ≡ levelsOf self.now.bytes.now j) × (result < 65536) }

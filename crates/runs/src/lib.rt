@@ -10,7 +10,7 @@ ghost use Rattle.runs.specs.Search.{leaves_at, Sought};
 
 use recording::Recording;
 
-// A level of a channel.
+// A level of a channel. The channel stays a number beside it: the text of a drill has it before the level is known.
 #[derive(Clone, Copy, PartialEq, Eq)]
 pub enum Level {
     High,
@@ -25,7 +25,7 @@ pub struct Run {
 }
 
 // A place among the changes. Change 0 is the time before the first one. Callers start there and pass on what they get:
-// which change a cursor names is free, and only its tick is promised.
+// which change a cursor names is free, and only its tick is promised. A cursor and no `Iterator`: the contract says of each call which run is the next.
 #[derive(Clone, Copy)]
 pub struct Cursor {
     pub change: usize,

@@ -50,8 +50,8 @@ impl<'a> Text<'a> {
         }
     }
 
-    // A number in decimal. Calls itself on the digits before the last: the digits are put here, and not by the library's
-    // `Display`, since the must-fail edit `digit_dropped` is of these steps.
+    // A number in decimal. Calls itself on the digits before the last. The digits are put here and not by `write!`: an `impl fmt::Write` of this
+    // type would have to say in definitions of its own what `Puts` says in one.
     pub fn decimal(&mut self, n: u64)
         ensures { Puts (decimal n) self.old self.new }
     {

@@ -1,7 +1,8 @@
 // Reads what the text of a drill has at a place: a byte, a number, a range, an operator after its operand, a letter with its sign.
 // Nothing is known here of the levels of the grammar, nor of trees.
 //
-// A reader answers where what it read ends, and its value, or `None` where the text has no such thing.
+// A reader answers where what it read ends, and its value, or `None` where the text has no such thing. Text and place are two parameters, and no
+// rest of the text: the place is a part of the answer.
 // specs/Tokens.antt says what a text begins with, and what is kept of it.
 #![tactic(auto)]
 

@@ -55,7 +55,8 @@ fn write_words(words: &mut [i32], at: usize, w: [i32; ZONE_WORDS])
     words[at + 5] = w[5];
 }
 
-// Writes the six words of a zone from `at` on; all other words stay as they were.
+// Writes the six words of a zone from `at` on; all other words stay as they were. Six words are handed on in a lent buffer: an array that is answered
+// by value is copied by parts and waited for.
 pub fn write_zone(words: &mut [i32], at: usize, z: Zone)
     requires { (at + zone_words ≤ length words.old) × (Ranged most_ticks z) }
     ensures { words.new ≡ overwrite words.old at (codes z) }
@@ -71,7 +72,7 @@ pub fn write_zone(words: &mut [i32], at: usize, z: Zone)
     write_words(words, at, w);
 }
 
-// Copies the zone whose words stand from `i` on in `from`; all other words stay as they were.
+// Copies the zone whose words stand from `i` on in `from`, read one by one for the same reason as stored; all other words stay as they were.
 pub fn copy_zone(words: &mut [i32], at: usize, from: &[i32], i: usize)
     requires { (at + zone_words ≤ length words.old) × (i + zone_words ≤ length from.now) }
     ensures { words.new ≡ overwrite words.old at (codes (zone_at from.now i)) }

@@ -3,7 +3,7 @@
 //
 // specs/ says what a zone means; proofs/Laws.antt is the page of laws that crates above cite, beside those of times in
 // `limit`. A `requires` is only of ranges, and every tight zone inside ticks 0..1,000,000 meets it (`ranged` in
-// proofs/Laws.antt). It stands at the functions and not in the type as an invariant, because the words of any buffer are read as a zone
+// proofs/Laws.antt). It (`Ranged`, and `Proper` in the crates above) stands at the functions and not in the type as an invariant, because the words of any buffer are read as a zone
 // (`words::read_zone`), and `contains` asks nothing of its zones.
 #![tactic(auto)]
 
