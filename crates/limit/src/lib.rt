@@ -128,7 +128,7 @@ impl Limit {
         Limit::Below(negative(n))
     }
 
-    // This and the next two are one call each, of the function on words of the same sense.
+    // This, `lesser`, `or_sum` and `leaves_room` are one call each, of the function on words of the same sense.
     pub fn plus(self, other: Limit) -> Limit
         requires { (Small most_sum self) × (Small most_sum other) }
         ensures { result ≡ self ⊕ other }

@@ -19,19 +19,19 @@ pub struct Finished {
 // causes, and gives no other.
 #[derive(Clone, Copy)]
 pub enum Refusal {
-    RecordingLength,
-    RecordingHead,
-    RecordingChange,
-    DrillLength,
-    DrillForm,
-    DrillLetter,
-    DrillRange,
-    DrillDepth,
-    WorkShort,
-    Overflow,
-    AnswerShort,
-    SheetForm,
-    RoundsSpent,
+    RecordingLength = 1,
+    RecordingHead = 2,
+    RecordingChange = 3,
+    DrillLength = 4,
+    DrillForm = 5,
+    DrillLetter = 6,
+    DrillRange = 7,
+    DrillDepth = 8,
+    WorkShort = 9,
+    Overflow = 10,
+    AnswerShort = 11,
+    SheetForm = 12,
+    RoundsSpent = 13,
 }
 
 // What a call comes to.
@@ -51,21 +51,7 @@ impl Refusal {
     pub fn number(self) -> u32
         ensures { result ≡ number_of self }
     {
-        match self {
-            Refusal::RecordingLength => 1,
-            Refusal::RecordingHead => 2,
-            Refusal::RecordingChange => 3,
-            Refusal::DrillLength => 4,
-            Refusal::DrillForm => 5,
-            Refusal::DrillLetter => 6,
-            Refusal::DrillRange => 7,
-            Refusal::DrillDepth => 8,
-            Refusal::WorkShort => 9,
-            Refusal::Overflow => 10,
-            Refusal::AnswerShort => 11,
-            Refusal::SheetForm => 12,
-            Refusal::RoundsSpent => 13,
-        }
+        self as u32
     }
 }
 
