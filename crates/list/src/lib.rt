@@ -39,13 +39,16 @@ enum Look {
     Several(usize),
 }
 
-// Moves n words down to the six at `gap`, behind which they stand.
+// Moves n words down to the six at `gap`, behind which they stand. Of this loop a single move of memory is made, and of `copy_within` none: it was
+// measured to take longer.
 fn close_gap(words: &mut [i32], gap: usize, n: usize)
     requires { gap + zone_words + n ≤ length words.old }
     ensures { Copied (gap + zone_words) gap n words.old words.new }
 {
     let from = gap + ZONE_WORDS;
-    words.copy_within(from..from + n, gap);
+    for k in 0..n {
+        words[gap + k] = words[from + k];
+    }
 }
 
 // Copies n zones to a place before them, or to one past their end. Most lists are short, and go zone by zone in fewer

@@ -112,13 +112,14 @@ fn rises(bytes: &[u8], j: usize) -> bool
     j <= 1 || le32(bytes, 8 * (j - 1) + 2) < le32(bytes, 8 * j + 2)
 }
 
-// Nothing is wrong with change j, unless it comes too late. Its levels are below `bits`, one bit for each channel.
+// Nothing is wrong with change j, unless it comes too late. Its levels are below `bits`, one bit for each channel. The times are asked last: in the
+// order of the record the loop over changes was measured to take twice as long, by where its jumps come to stand.
 #[tactic(auto, using(crate::proofs::Refusals::quiet_below), unfolding(crate::specs::Tests::changed))]
 fn changed(bytes: &[u8], j: usize, bits: u32) -> bool
     requires { (8 * j + 7 < length bytes.now) × (bits ≡ 2 ^ channelsOf bytes.now) }
     ensures { changedBy bytes.now j ≡ (result && ltb (timeOf bytes.now j) (durationOf bytes.now)) }
 {
-    has_mark(bytes, j, CHANGE) && rises(bytes, j) && le16(bytes, 8 * j + 6) < bits
+    has_mark(bytes, j, CHANGE) && le16(bytes, 8 * j + 6) < bits && rises(bytes, j)
 }
 
 // Nothing is wrong with the changes 1 to `changes`.

@@ -29,6 +29,7 @@ pub enum Unprinted {
     FrontShort,
 }
 
+// The number of a limit. An arm for each case: with one arm for both the proof does not close.
 fn number(l: Limit) -> i64
     ensures { (result ≡ value l) × (mag result < 2_147_483_648) }
 {

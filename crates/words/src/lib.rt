@@ -89,10 +89,18 @@ pub fn copy_zone(words: &mut [i32], at: usize, from: &[i32], i: usize)
 }
 
 // Copies the zone whose words stand from `from` on to `to` in the same words, where the two places may have words in common; all others stay as
-// they were.
+// they were. The six are read before the first is written: `copy_within` goes word by word, and was measured to take longer.
 pub fn move_zone(words: &mut [i32], from: usize, to: usize)
     requires { (from + zone_words ≤ length words.old) × (to + zone_words ≤ length words.old) }
     ensures { words.new ≡ overwrite words.old to (codes (zone_at words.old from)) }
 {
-    words.copy_within(from..from + ZONE_WORDS, to);
+    let w = [
+        words[from],
+        words[from + 1],
+        words[from + 2],
+        words[from + 3],
+        words[from + 4],
+        words[from + 5],
+    ];
+    write_words(words, to, w);
 }

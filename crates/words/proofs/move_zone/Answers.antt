@@ -1,6 +1,7 @@
-use Rattle.std.proofs.Common.{◌∙◌, arith}
-use Rattle.words.proofs.Words.{pasted_zone}
+use Rattle.std.proofs.Common.{◌∙◌, rules}
+use Rattle.words.proofs.Signed.{zone_kept}
 use Rattle.words.proofs.move_zone.Goals as goal
 
 pub returns : goal.returns
-returns c = c.copy_within.ensures.after ∙ pasted_zone c.args.words.now c.args.from c.args.to _ (omega arith) (omega arith)
+returns c =
+    c.write_words.ensures ∙ zone_kept _ _ c.args.words.now c.args.from (search rules) (search rules) (search rules) (search rules) (search rules) (search rules)
