@@ -79,7 +79,7 @@ fn is_kept(words: &[i32], start: usize) -> bool
         .all(|(i, &word)| word == word_before(i))
 }
 
-// Whether there are n words and the first n are zero.
+// Whether there are n words and the first n are zero. The count is no slice's: there may be fewer words.
 fn is_zero(words: &[i32], n: usize) -> bool
     ensures { (result ≡ true) ↔ Zero words.now n }
 {
@@ -104,8 +104,8 @@ pub fn print_line(rt: &impl Print, text: &[u8], n: u64) -> io::Result<()> {
 
 // The first n bytes of a text that has so many.
 pub fn print_part(rt: &impl Print, text: &[u8], n: usize) -> io::Result<()> {
-    if n <= text.len() {
-        print(rt, &text[..n])?;
+    if let Some(part) = text.get(..n) {
+        print(rt, part)?;
     }
     Ok(())
 }

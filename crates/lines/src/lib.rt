@@ -68,9 +68,8 @@ fn take_byte(state: Taken, store: &mut [u8], b: u8) -> Taken
         };
     }
     Taken {
-        lines: state.lines,
         begun: state.begun.saturating_add(1).min(PLACE),
-        empty: state.empty,
+        ..state
     }
 }
 

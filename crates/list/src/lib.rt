@@ -62,7 +62,7 @@ pub fn copy_zones(words: &mut [i32], from: usize, to: usize, n: usize)
     }
 }
 
-// What has been seen, with zone i inside the new one as well.
+// What has been seen, with zone i inside the new one as well. An arm for each case says what becomes of it.
 fn also(seen: Look, i: usize) -> Look
     ensures { AlsoAs seen i result }
 {

@@ -37,7 +37,8 @@ fn result(
 }
 
 // The results of the n drills in the store with their numbers, from the front of `out`: each drill has all of its rounds, and finds both buffers as
-// the one before it left them. Of a store that holds no n drills nothing is said.
+// the one before it left them. Of a store that holds no n drills nothing is said. The count is no part of the store: `lines_of` answers none where a
+// text is no sheet.
 pub fn results(
     recording: &[u8],
     store: &[u8],

@@ -35,6 +35,7 @@ fn offset_at(text: &[u8], at: usize, first: u8, count: u32) -> Option<u32>
     ensures { OffsetAs first count text.now at result }
 {
     let offset = u32::from(text.get(at)?.checked_sub(first)?);
+    // With `then_some` the proof does not close.
     if offset < count { Some(offset) } else { None }
 }
 

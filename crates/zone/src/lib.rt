@@ -49,7 +49,8 @@ impl Zone {
         }
     }
 
-    // The same members with limits that cannot be lowered; None where there is no member.
+    // The same members with limits that cannot be lowered; None where there is no member. Each pair of limits is asked by itself, and the first
+    // that leaves no room settles it.
     pub fn tighten(self) -> Option<Zone>
         requires { Ranged most_ticks self }
         ensures value { result ≡ tighten self }
@@ -120,7 +121,8 @@ impl Zone {
         }
     }
 
-    // The stretches that a cut divides into one of this zone and one of the other. Nothing is left to tighten.
+    // The stretches that a cut divides into one of this zone and one of the other. Nothing is left to tighten. Two tests, as in `meet`:
+    // where no end is a start, no limit is summed.
     pub fn compose(self, other: Zone) -> Option<Zone>
         requires { (Ranged most_ticks self) × (Ranged most_ticks other) }
         ensures value { result ≡ compose self other }
