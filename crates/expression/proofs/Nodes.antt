@@ -3,10 +3,7 @@ use mathlib.Core.Path.{◌≡◌, refl, ◌∙◌}
 use mathlib.Core.List.{List}
 use Prim.Native.Nat.{ℕ, ◌+◌, ◌*◌, ◌<◌, ◌≤◌}
 use native.Mathlib.Omega.{arith}
-use lib.ListN.{length, get_or}
-use borrow.Rule.Slice.PartMut.{put_mid}
-use Rattle.std.proofs.Common.{rules, add-zero}
-use Rattle.std.proofs.lemmas.List.{places}
+use lib.ListN.{get_or}
 use Rattle.expression.specs.declared.Node.{Node}
 use Rattle.expression.specs.Expression.{Expression}
 use Rattle.expression.specs.Stored.{
@@ -37,22 +34,10 @@ stored_keep h k (stored_literal w) = stored_literal (node_keep _ h k ∙ w)
 stored_keep h k (stored_join w a b x y) = stored_join (node_keep _ h k ∙ w) a b (stored_keep (omega arith) k x) (stored_keep (omega arith) k y)
 stored_keep h k (stored_unary w a x) = stored_unary (node_keep _ h k ∙ w) a (stored_keep (omega arith) k x)
 
--- four words, written over node n
-module _ (ns ws : List ℕ) (n k : ℕ) (four : length ws ≡ 4) (is : k ≡ 4) (room : n * 4 + 4 ≤ length ns) where
-  written : (i : ℕ) → i < 4 → get_or (put_mid (n * 4) k ns ws) (n * 4 + i) 0 ≡ get_or ws i 0
-  written i h = search (rules, places)
-
-  below : (i : ℕ) → i < n * 4 → get_or (put_mid (n * 4) k ns ws) i 0 ≡ get_or ns i 0
-  below i h = search (rules, places)
-
-  above : (i : ℕ) → n * 4 + 4 ≤ i → get_or (put_mid (n * 4) k ns ws) i 0 ≡ get_or ns i 0
-  above i h = search (rules, places)
-
-  pub stores : {node : Node} → node_at ws 0 ≡ node → Placed n node ns (put_mid (n * 4) k ns ws)
-  unfolding node_at
-  stores d =
-      record {
-        placed = rw (rw add-zero at (written 0 (omega arith)), written 1 (omega arith), written 2 (omega arith), written 3 (omega arith)) d;
-        front = record { kept = below };
-        behind = above;
-      }
+-- four words that stand where node n does, and nowhere else
+pub stores : (ns vs ws : List ℕ) (n : ℕ) {node : Node} → node_at ws 0 ≡ node
+    → get_or vs (n * 4) 0 ≡ get_or ws 0 0 → get_or vs (n * 4 + 1) 0 ≡ get_or ws 1 0 → get_or vs (n * 4 + 2) 0 ≡ get_or ws 2 0 → get_or vs (n * 4 + 3) 0 ≡ get_or ws 3 0
+    → ((i : ℕ) → i < n * 4 → get_or vs i 0 ≡ get_or ns i 0) → ((i : ℕ) → n * 4 + 4 ≤ i → get_or vs i 0 ≡ get_or ns i 0)
+    → Placed n node ns vs
+unfolding node_at
+stores ns vs ws n d w0 w1 w2 w3 below above = record { placed = rw (w0, w1, w2, w3) d; front = record { kept = below }; behind = above }

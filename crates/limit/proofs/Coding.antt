@@ -109,6 +109,9 @@ lesser_word a b false e =
     let n : le_z a b ≡ true = omega (arithZ, e) in
     rw (decode_order a b, n, code_decode a)
 
+pub lesser_of : (a b r : ℤ) → r ≡ cond (lt_z b a) b a → r ≡ code (lesser (decode a) (decode b))
+lesser_of a b r e = e ∙ lesser_word a b _ refl
+
 pub greater_word : (a b : ℤ) (t : Bool) → lt_z b a ≡ t → cond t a b ≡ code (greater (decode a) (decode b))
 unfolding greater
 greater_word a b true e =
@@ -117,3 +120,6 @@ greater_word a b true e =
 greater_word a b false e =
     let n : le_z a b ≡ true = omega (arithZ, e) in
     rw (decode_order a b, n, code_decode b)
+
+pub greater_of : (a b r : ℤ) → r ≡ cond (lt_z b a) a b → r ≡ code (greater (decode a) (decode b))
+greater_of a b r e = e ∙ greater_word a b _ refl

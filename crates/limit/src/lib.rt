@@ -51,12 +51,14 @@ fn sum(a: i32, b: i32) -> i32
 }
 
 // The lesser of two limits, of their words, and the greater.
+#[tactic(auto, using(crate::proofs::Coding::lesser_of))]
 pub fn lesser(a: i32, b: i32) -> i32
     ensures { result ≡ code (lesser (decode a) (decode b)) }
 {
     a.min(b)
 }
 
+#[tactic(auto, using(crate::proofs::Coding::greater_of))]
 pub fn greater(a: i32, b: i32) -> i32
     ensures { result ≡ code (greater (decode a) (decode b)) }
 {

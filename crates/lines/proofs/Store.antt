@@ -13,15 +13,15 @@ use Rattle.lines.specs.Steps.{kept}
 
 -- byte i of line k is b
 module _ (store : List ℕ) (k i b : ℕ) where
-  kept_in : k < most_lines → i < place_bytes → kept store k i b ≡ set store (k * place_bytes + i) b
+  pub kept_in : k < most_lines → i < place_bytes → kept store k i b ≡ set store (k * place_bytes + i) b
   unfolding kept
   kept_in h room = rw (lt-ltb _ _ h, lt-ltb _ _ room)
 
-  kept_full : k < most_lines → place_bytes ≤ i → kept store k i b ≡ store
+  pub kept_full : k < most_lines → place_bytes ≤ i → kept store k i b ≡ store
   unfolding kept
   kept_full h full = rw (lt-ltb _ _ h, le-ltb _ _ full)
 
-  kept_past : most_lines ≤ k → kept store k i b ≡ store
+  pub kept_past : most_lines ≤ k → kept store k i b ≡ store
   unfolding kept
   kept_past h = rw (le-ltb _ _ h)
 

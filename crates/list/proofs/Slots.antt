@@ -2,12 +2,13 @@
 use mathlib.Core.Path.{◌≡◌, refl, sym, ap, subst, ◌∙◌}
 use mathlib.Core.Bool.{Bool, true, false}
 use mathlib.Core.Logic.{◌⊎◌, inl, inr, ⊎_elim}
-use mathlib.Core.List.{List, [], ◌∷◌, ◌++◌}
+use mathlib.Core.List.{List, [], ◌∷◌, ◌++◌, append-nil}
 use Prim.Native.Nat.{ℕ, zero, suc, ◌+◌, ◌-◌, ◌*◌, ◌≤◌, ◌<◌}
 use native.Mathlib.Omega.{arith}
 use lib.Dec.{ltb}
-use lib.IntN.{ℤ}
-use lib.ListN.{length}
+use lib.IntN.{ℤ, pos}
+use lib.ListN.{length, take, drop, length-append, length-drop, drop_of_length-le, get_or-append}
+use lib.Seq.{length-take-le, take_all, get_or-take, get_or-drop, get_or-append-add}
 use borrow.Author.Tests.{ltb-true, ltb-false}
 use Rattle.zone.specs.declared.Zone.{Zone}
 use Rattle.words.specs.Words.{word, zone_at, codes, overwrite}
@@ -132,6 +133,49 @@ copied_on {from} {to} {k} {m} {n} {ws} {us} {vs} c d h l =
 -- words that stand there already
 pub copied_there : {from to : ℕ} (n : ℕ) (ws : List ℤ) → from ≡ to → Copied from to n ws ws
 copied_there {from} n ws e = subst (λ (at : ℕ). Copied from at n ws ws) e (record { moved = λ k h. refl; kept = kept_refl from n ws })
+
+-- ---- the words from `at` on, lent as a part
+
+module _ (ws : List ℤ) (at : ℕ) (h : at ≤ length ws) where
+  pub part_length : length (take (length ws - at) (drop at ws)) ≡ length ws - at
+  part_length = length-take-le (length ws - at) (drop at ws) (omega (arith, length-drop at ws))
+
+  part_word : (j : ℕ) → word (take (length ws - at) (drop at ws)) j ≡ word ws (at + j)
+  part_word j = ap (λ (us : List ℤ). word us j) (take_all (length ws - at) (drop at ws) (omega (arith, length-drop at ws))) ∙ get_or-drop at ws j (pos 0)
+
+  -- all words, with ys in the place of the part
+  abbrev Back : List ℤ → List ℤ
+  Back ys = take at ws ++ (ys ++ drop (length ws - at) (drop at ws))
+
+  back_is : (ys : List ℤ) → Back ys ≡ take at ws ++ ys
+  back_is ys = ap (λ (us : List ℤ). take at ws ++ (ys ++ us)) (drop_of_length-le (drop at ws) {i = length ws - at} (omega (arith, length-drop at ws))) ∙ ap (λ (us : List ℤ). take at ws ++ us) (append-nil ys)
+
+  front : (ys : List ℤ) (k : ℕ) → k < at → word (take at ws ++ ys) k ≡ word ws k
+  front ys k l = get_or-append (take at ws) ys (pos 0) k (omega (arith, length-take-le at ws h)) ∙ get_or-take at ws k (pos 0) l
+
+  behind : (ys : List ℤ) (j : ℕ) → word (take at ws ++ ys) (at + j) ≡ word ys j
+  behind ys j =
+      let e : at + j ≡ length (take at ws) + j = omega (arith, length-take-le at ws h) in
+      ap (word (take at ws ++ ys)) e ∙ get_or-append-add (take at ws) ys j (pos 0)
+
+  -- the gap that was closed in the part is closed in all of them
+  pub gap_closed : {n : ℕ} {ys : List ℤ} → Copied 6 0 n (take (length ws - at) (drop at ws)) ys → Copied (at + 6) at n ws (Back ys)
+  gap_closed {n} {ys} c =
+      subst (Copied (at + 6) at n ws) (sym (back_is ys))
+      (record {
+        moved = λ k l.
+            let e : k ≡ 0 + k = omega arith in
+            let f : at + (6 + k) ≡ at + 6 + k = omega arith in
+            behind ys k ∙ ap (word ys) e ∙ c.moved k l ∙ part_word (6 + k) ∙ ap (word ws) f;
+        kept =
+            record {
+              same_length = length-append (take at ws) ys ∙ omega (arith, length-take-le at ws h, c.kept.same_length, part_length);
+              below = front ys;
+              above = λ k l.
+                  let e : k ≡ at + (k - at) = omega arith in
+                  ap (word (take at ws ++ ys)) e ∙ behind ys (k - at) ∙ c.kept.above (k - at) (omega arith) ∙ part_word (k - at) ∙ ap (word ws) (sym e);
+            };
+      })
 
 -- ---- a zone written behind the list
 

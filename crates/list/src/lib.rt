@@ -39,16 +39,23 @@ enum Look {
     Several(usize),
 }
 
-// Moves n words down to the six at `gap`, behind which they stand. Of this loop a single move of memory is made, and of `copy_within` none: it was
-// measured to take longer.
+// Moves the n words behind the first six of a part to its front. Both places stand in one part, so that it is a single move of
+// memory; `copy_within` goes word by word, and was measured to take longer.
+fn move_down(part: &mut [i32], n: usize)
+    requires { zone_words + n ≤ length part.old }
+    ensures { Copied zone_words 0 n part.old part.new }
+{
+    for k in 0..n {
+        part[k] = part[k + ZONE_WORDS];
+    }
+}
+
+// Moves n words down to the six at `gap`, behind which they stand.
 fn close_gap(words: &mut [i32], gap: usize, n: usize)
     requires { gap + zone_words + n ≤ length words.old }
     ensures { Copied (gap + zone_words) gap n words.old words.new }
 {
-    let from = gap + ZONE_WORDS;
-    for k in 0..n {
-        words[gap + k] = words[from + k];
-    }
+    move_down(&mut words[gap..], n);
 }
 
 // Copies n zones to a place before them, or to one past their end. Most lists are short, and go zone by zone in fewer

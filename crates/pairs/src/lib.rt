@@ -19,6 +19,7 @@ use words::{END, START, ZONE_WORDS};
 use zone::Zone;
 
 // The operations on pairs of zones, as the specs name them. The code has a type for each, below, and no value that says which one is meant.
+#[derive(Clone, Copy)]
 pub enum Operation {
     Meet,
     Compose,

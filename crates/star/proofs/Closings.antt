@@ -148,11 +148,11 @@ module _ {inner : List Zone} (diag : Zone) {told first second : ℕ} {us : List 
       }
 
 -- rounds that overflow, and rounds beyond those told, are the star's
-rounds_overflow : {inner : List Zone} {diag : Zone} {told left : ℕ} → Overflowed (Rounds inner inner) told left → Overflowed (Star inner diag) told left
+pub rounds_overflow : {inner : List Zone} {diag : Zone} {told left : ℕ} → Overflowed (Rounds inner inner) told left → Overflowed (Star inner diag) told left
 rounds_overflow b =
     let o = b.overflowing in record { overflowing = record { opened = o.opened; done = o.done; means = round_overflows o.means; within = o.within }; spends = b.spends }
 
-rounds_exceed : {inner : List Zone} (diag : Zone) {told : ℕ} → Exceeding (Rounds inner inner) told → Exceeding (Star inner diag) told
+pub rounds_exceed : {inner : List Zone} (diag : Zone) {told : ℕ} → Exceeding (Rounds inner inner) told → Exceeding (Star inner diag) told
 rounds_exceed {inner} diag {told} x = go x.whole x.means x.beyond
   where
     put : {r : ℕ} {F : List Zone} → Rounds inner inner (value F r) → told < r → (b : Built) → insert_each (Some diag ∷ []) F ≡ b → Exceeding (Star inner diag) told

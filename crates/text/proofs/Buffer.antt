@@ -69,7 +69,7 @@ full_onto s t o h =
 -- ---- a byte
 
 module _ {out : List ℕ} (b : ℕ) where
-  put_in : (at : ℕ) → at < length out → Appends (b ∷ []) out (Some at) (set out at b) (Some (at + 1))
+  pub put_in : (at : ℕ) → at < length out → Appends (b ∷ []) out (Some at) (set out at b) (Some (at + 1))
   unfolding behind written_after
   put_in at l =
       record {
@@ -77,7 +77,7 @@ module _ {out : List ℕ} (b : ℕ) where
         answer = sym (fits_fitted (at + 1) (length out) (omega arith));
       }
 
-  put_full : (at : ℕ) → length out ≤ at → Appends (b ∷ []) out (Some at) out None
+  pub put_full : (at : ℕ) → length out ≤ at → Appends (b ∷ []) out (Some at) out None
   unfolding behind written_after onto
   put_full at l =
       record {
@@ -86,7 +86,7 @@ module _ {out : List ℕ} (b : ℕ) where
       }
 
   -- after a text that had no room nothing goes in
-  put_none : Appends (b ∷ []) out None out None
+  pub put_none : Appends (b ∷ []) out None out None
   unfolding behind written_after
   put_none = record { bytes = refl; answer = refl }
 

@@ -1,5 +1,5 @@
 -- Laws of texts: how numbers read in decimal and how long they are, and how a text goes into a buffer.
 pub mod Digits
 pub mod Buffer
-mod Signed
+pub mod Signed
 mod Examples

@@ -13,7 +13,7 @@ use Rattle.tokens.specs.Readers.{Past, Offset-at, OffsetAs}
 use Rattle.tokens.proofs.Text.{rest_past}
 use Rattle.tokens.proofs.Grammar.{ranged_sound, digits_on, digits_off}
 
-cap_small : (n : ℕ) → n < 1000001 → n ≡ cap n
+pub cap_small : (n : ℕ) → n < 1000001 → n ≡ cap n
 unfolding cap
 cap_small n h = omega arith
 

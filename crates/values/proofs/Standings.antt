@@ -54,7 +54,7 @@ built_value b ws base left (Err e) o = over left o.0
 
 -- ---- a list brought to another slot
 
-stands_brought : {comes : Value → Type 0} {told : ℕ} {ws vs : List ℤ} {at base n left : ℕ} → Standing comes told ws at n left → list_at vs base n ≡ list_at ws at n
+pub stands_brought : {comes : Value → Type 0} {told : ℕ} {ws vs : List ℤ} {at base n left : ℕ} → Standing comes told ws at n left → list_at vs base n ≡ list_at ws at n
     → Standing comes told vs base n left
 stands_brought s e = record { list = s.list; rounds = s.rounds; means = s.means; spends = s.spends; holds = brought s.holds e }
 

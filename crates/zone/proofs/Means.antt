@@ -4,6 +4,7 @@ use mathlib.Core.Path.{◌≡◌, sym, subst}
 use mathlib.Core.Bool.{Bool}
 use Prim.Native.Nat.{ℕ}
 use Rattle.limit.specs.declared.Limit.{Limit}
+use Rattle.limit.specs.Limit.{◌⊕◌, most, least, nought}
 use Rattle.zone.specs.Zone.{Zone, tighten, meet, compose, contains, run, diagonal, everything, band, Tightens, Meets, Composes, Contains, IsRun, IsDiagonal, IsEverything, IsBand}
 use Rattle.zone.proofs.Tighten.{tighten_is, tighten_tight, meet_is, meet_tight}
 use Rattle.zone.proofs.Compose.{compose_is}
@@ -42,6 +43,10 @@ module _ (from to : ℕ) where
 
   pub diagonal_means : {r : Zone} → r ≡ diagonal from to → IsDiagonal from to r
   diagonal_means e = subst (IsDiagonal from to) (sym e) (record { members = diagonal_members from to; tight = λ h. tight_is.1 (diagonal_closed from to h) })
+
+  pub everything_is : {r : Zone} → r.start ≡ most to → r.nstart ≡ least from → r.end ≡ most to → r.nend ≡ least from → r.length ≡ most to ⊕ least from → r.nlength ≡ nought → r ≡ everything from to
+  unfolding everything ◌⊕◌
+  everything_is s ns e ne l nl = λ i. record { start = s i; nstart = ns i; end = e i; nend = ne i; length = l i; nlength = nl i }
 
   pub everything_means : {r : Zone} → r ≡ everything from to → IsEverything from to r
   everything_means e = subst (IsEverything from to) (sym e) (record { members = everything_members from to; tight = λ h. tight_is.1 (everything_closed from to h) })

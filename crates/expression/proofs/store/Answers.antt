@@ -1,9 +1,12 @@
--- `store` meets its contract.
-use Rattle.std.proofs.Common.{ℕ, arith, length-take, length-drop}
+-- `store` meets its contract: each of the four words stands in a place of its own, and all others are kept.
+use Rattle.std.proofs.Common.{rules}
+use Rattle.std.proofs.lemmas.List.{places}
 use Rattle.expression.proofs.Nodes.{stores}
 use Rattle.expression.proofs.store.Goals as goal
 
 pub returns : goal.returns
 returns c =
-    stores _ _ _ _ (omega (arith, c.copy_from_slice.ensures.len, length-take {A = ℕ}, length-drop {A = ℕ}, c.requires)) (omega arith) c.requires
-    (rw c.copy_from_slice.ensures.after c.words_of.ensures)
+    let after = c.copy_from_slice.ensures.after in
+    stores _ _ c.words_of.result _ c.words_of.ensures
+    (search (rules, places, after)) (search (rules, places, after)) (search (rules, places, after)) (search (rules, places, after))
+    (λ i h. search (rules, places)) (λ i h. search (rules, places))

@@ -1,7 +1,0 @@
-use Rattle.std.proofs.Common.{◌∙◌, refl, rules}
-use Rattle.limit.proofs.Coding.{lesser_word}
-use Rattle.signed.proofs.Machine.{back}
-use Rattle.limit.proofs.lesser.Goals as goal
-
-pub returns : goal.returns
-returns c = back (search rules) ∙ rw (back c.ranges.a, back c.ranges.b) at c.min.ensures.value ∙ lesser_word c.args.a c.args.b _ refl
